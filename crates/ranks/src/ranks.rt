@@ -1,7 +1,8 @@
 //! How many keys each segment of a list of ordered keys has.
 
 ghost use Rattle.std.specs.Prelude.{◌≡◌, ◌+◌, ◌<◌, ◌≤◌, ◌^◌, ◌-◌, ◌∷◌, [], List, ℕ, false, true, get_or, length, IfOk, IfSome, OnErr, OnOk};
-ghost use Rattle.ranks.specs.Counts.{AreChanges, AreRanksOf, LiesIn, before_of, before_place, below, between, count_of, head_cut, head_with, is_below, segments_cut, segments_with, start_of, with_key};
+ghost use Rattle.ranks.specs.Counts.{AreChanges, AreRanksOf, LiesIn, before_of, before_place, below, between, count_of, head_cut};
+ghost use Rattle.ranks.specs.Counts.{head_with, is_below, segments_cut, segments_with, start_of, with_key};
 
 use std::alloc::{AllocError, Global};
 use std::marker::Model;
@@ -176,7 +177,8 @@ impl Ranks {
     /// Counts what was done to one key.
     fn apply(&mut self, change: &Change<'_>)
         requires { self.old.total < 2 ^ 64 - 1 }
-        ensures { (others : List (List ℕ)) → AreRanksOf self.old (with_key change.now.was change.now.key.now others) → AreRanksOf self.new (with_key change.now.is change.now.key.now others) }
+        ensures { (others : List (List ℕ)) → AreRanksOf self.old (with_key change.now.was change.now.key.now others)
+            → AreRanksOf self.new (with_key change.now.is change.now.key.now others) }
     {
         self.change(change.key, change.was, change.is);
     }
@@ -337,7 +339,8 @@ impl Ranks {
         requires above { is_below (start_of self.old.segments place) key ≡ true }
         requires some { count ≤ count_of self.old.head self.old.segments place }
         ensures head { OnOk result (self.new.head ≡ head_cut self.old.head place count) }
-        ensures segments { OnOk result (self.new.segments ≡ segments_cut self.old.segments place key count (count_of self.old.head self.old.segments place - count)) }
+        ensures segments { OnOk result
+            (self.new.segments ≡ segments_cut self.old.segments place key count (count_of self.old.head self.old.segments place - count)) }
         ensures total { self.new.total ≡ self.old.total }
         ensures err { OnErr result (self.new ≡ self.old) }
     {

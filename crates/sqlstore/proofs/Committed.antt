@@ -3,8 +3,8 @@ use Rattle.sqlstore.proofs.Common.{Addition, AreAcceptable, AreDue, CommitFault,
 use Rattle.std.specs.FinMap as finite
 use Rattle.store.specs.Contents.{IsThereWith}
 use Rattle.store.specs.Database as store
-use Rattle.sqlstore.specs.Causes.{IsJudged}
-use Rattle.sqlstore.specs.Commits.{IsToldAs, IsUncommitted}
+use Rattle.sqlstore.specs.inner.Causes.{IsJudged}
+use Rattle.sqlstore.specs.inner.Commits.{IsToldAs, IsUncommitted}
 use Rattle.transactions.specs.declared.commit_fault.CommitFault.TheVariants as write
 use Rattle.sqlstore.proofs.Answering.{IsThere, failed_later}
 use Rattle.transactions.proofs.Committing.{length-writings_in}

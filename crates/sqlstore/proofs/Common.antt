@@ -1,9 +1,9 @@
 -- The names that most proofs of this crate cite, passed on from one place. Declares nothing.
 pub use Rattle.sqlite.proofs.Callers.{memory_is_clean}
 pub use Rattle.sqlite_trees.specs.Props.{Trees-set, rows_set}
-pub use Rattle.sqlstore.specs.Listing.{AreEnoughBySequence, IsLimitFor, IsSequenceRow, listed_by_id, listed_by_sequence, page_with_leaves, winners_page, with_leaves}
+pub use Rattle.sqlstore.specs.inner.Listing.{AreEnoughBySequence, IsLimitFor, IsSequenceRow, listed_by_id, listed_by_sequence, page_with_leaves, winners_page, with_leaves}
 pub use Rattle.sqlstore.specs.Model.{Answers, ChangesWhole, Finds, Moves, OnlyReads, Stands, contents_of, is_clean, is_honest, trees_of}
-pub use Rattle.sqlstore.specs.Reading.{FoundValues, HasNumber, IsShownName, NumberValues, at_sequence, found_in, found_shown, known_values, name_shown, numbers_in}
+pub use Rattle.sqlstore.specs.inner.Reading.{FoundValues, HasNumber, IsShownName, NumberValues, at_sequence, found_in, found_shown, known_values, name_shown, numbers_in}
 pub use Rattle.sqlstore.specs.Standing.{Holds, IsHeld, IsKnown, IsStanding, WasStore}
 pub use Rattle.sqlstore.specs.declared.known_database.DatabaseNumbers.{DatabaseNumbers}
 pub use Rattle.sqlstore.specs.declared.known_database.KnownDatabase.{KnownDatabase}

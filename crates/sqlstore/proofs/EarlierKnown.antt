@@ -1,16 +1,16 @@
 -- What is known of the databases that were asked for before the latest one, where some are taken out or put in.
-use Rattle.sqlstore.proofs.Common.{AllByRecursion, Bool, KnownDatabase, List, None, Some, Trees, all-slice_get, all_weaker, drop, false, filter, not, refl, slice_get, subst, sym, true, ℕ, ◌++◌, ◌+◌, ◌∷◌, ◌≡◌, ◌≢◌}
+use Rattle.sqlstore.proofs.Common.{AllByRecursion, Bool, KnownDatabase, List, None, Some, Trees, all-slice_get, all_weaker, cond, drop, false, filter, not, refl, slice_get, subst, sym, true, ℕ, ◌++◌, ◌+◌, ◌∷◌, ◌≡◌, ◌≢◌}
 use Rattle.std.proofs.lemmas.Slice.Eq.{bytes_eq-Decides}
 use Rattle.std.specs.Prelude.{[], bytes_eq, take}
 use Rattle.sqlite_keyed.proofs.ListLemmas.{all-append, all-filter}
 use Rattle.index.proofs.PagePlaces.{all_dropped, all_taken}
 use Rattle.tables.proofs.RowMaps.{passing}
 use Rattle.sqlstore.proofs.KnownCounts.{known_split}
-use Rattle.sqlstore.specs.Reading.{without_indexes}
+use Rattle.sqlstore.specs.inner.Reading.{without_indexes}
 use Rattle.sqlstore.specs.Standing.{AreKnown, IsKnownDatabase}
 
 abbrev IsEarlier : Trees → KnownDatabase → Type 0
-IsEarlier trees k = IsKnownDatabase trees k × (k.indexes ≡ None)
+IsEarlier trees k = IsKnownDatabase trees k × (k.indexes ≡ None) × (k.entries ≡ None)
 
 module _ (trees : Trees) (ks : List KnownDatabase) (known : AreKnown trees ks) where
   -- without the one at a place
@@ -23,7 +23,12 @@ module _ (trees : Trees) (ks : List KnownDatabase) (known : AreKnown trees ks) w
 
   -- with one more, whose indexes are forgotten
   pub pushed_known : (k : KnownDatabase) → IsKnownDatabase trees k → AreKnown trees (ks ++ without_indexes k ∷ [])
-  pushed_known k is = all-append (IsEarlier trees) ks (without_indexes k ∷ []) known ((known_split trees k is, refl), tt)
+  pushed_known k is = all-append (IsEarlier trees) ks (without_indexes k ∷ []) known ((known_split trees k is, refl, refl), tt)
+
+  -- the same, where there is room for it
+  pub pushed_if : (room : Bool) (k : KnownDatabase) → IsKnownDatabase trees k → AreKnown trees (cond room (ks ++ without_indexes k ∷ []) ks)
+  pushed_if true k is = pushed_known k is
+  pushed_if false k is = known
 
 -- without those of a name
 module _ (name : List ℕ) (ks left : List KnownDatabase) (is : left ≡ filter (λ k. not (bytes_eq k.name name)) ks) where

@@ -34,8 +34,8 @@ use Rattle.index.proofs.Spots.{at_in, each_in, from_directed}
 use Rattle.sqlstore.proofs.Cuts.{count_none, count_same, first_all, first_map, limited, none_limited, nothing_left}
 use Rattle.sqlstore.proofs.ListedRows.{listed_intact}
 use Rattle.sqlstore.proofs.TextBounds.{above_texts, at_most, behind, below, none_below}
-use Rattle.sqlstore.specs.Listing.{all_count}
-use Rattle.sqlstore.specs.ById.{IsHighIdBound, IsLiveRangeOf, IsLowIdBound, is_at_least, lies_above}
+use Rattle.sqlstore.specs.inner.Listing.{all_count}
+use Rattle.sqlstore.specs.inner.ById.{IsHighIdBound, IsLiveRangeOf, IsLowIdBound, is_at_least, lies_above}
 
 -- ---- bounds of a range
 
@@ -220,7 +220,7 @@ module _ (trees : Trees) (db : ℤ) (l : IsLaid trees) where
   all_texts = texts all all_intact
 
   -- as many rows of a kind are stored as a list has, in whatever order
-  counted : (by : Row → Row → Ordering) → IsTotalOrder by → (q : Row → Bool) → length (filter (λ r. is_in db r && q (listed_document r)) docs) ≡ count_by q (map listed_document (sort_by by (filter (is_in db) docs)))
+  pub counted : (by : Row → Row → Ordering) → IsTotalOrder by → (q : Row → Bool) → length (filter (λ r. is_in db r && q (listed_document r)) docs) ≡ count_by q (map listed_document (sort_by by (filter (is_in db) docs)))
   counted by total q =
       let found = filter (λ r. is_in db r && q (listed_document r)) docs in
       let long : length found ≡ length (map listed_document (sort_by by found)) =

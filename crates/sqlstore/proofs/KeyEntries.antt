@@ -26,12 +26,12 @@ use Rattle.sqlstore.proofs.Answering.{IsThere, there, was_honest}
 use Rattle.sqlstore.proofs.Cuts.{limited, none_limited, nothing_left}
 use Rattle.sqlstore.proofs.FoundPages.{key_page_by}
 use Rattle.sqlstore.proofs.ListedRows.{counts_code}
-use Rattle.sqlstore.specs.ByKey.{IsRangeOf}
+use Rattle.sqlstore.specs.inner.ByKey.{IsRangeOf}
 use Rattle.index.specs.Calls.{IsRefused}
 use Rattle.index.specs.declared.fault.IndexFault.{IndexFault}
 use Rattle.index.specs.declared.fault.IndexFault.TheVariants as index
-use Rattle.sqlstore.specs.Causes.{IsJudged}
-use Rattle.sqlstore.specs.Commits.{IsIndexToldAs, IsUncommitted}
+use Rattle.sqlstore.specs.inner.Causes.{IsJudged}
+use Rattle.sqlstore.specs.inner.Commits.{IsIndexToldAs, IsUncommitted}
 
 -- ---- answers
 

@@ -8,7 +8,7 @@ use Rattle.tables.specs.Rows.{shown_hash}
 use Rattle.tables.specs.Shown.{IsShownHash}
 use Rattle.tree.specs.History.{leaves}
 use Rattle.tree.specs.Revision.{revision_code}
-use Rattle.sqlstore.specs.Reading.{EndsPath}
+use Rattle.sqlstore.specs.inner.Reading.{EndsPath}
 
 pub revs_set : IsSet (Option (List Revision))
 revs_set = Coded-set (coded_option (coded_list revision_code))

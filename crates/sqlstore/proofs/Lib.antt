@@ -9,6 +9,7 @@ pub mod ListedRows
 pub mod Cuts
 pub mod TextBounds
 pub mod IdRows
+pub mod Ranking
 pub mod Enough
 pub mod FoundPages
 pub mod KeyEntries
@@ -18,6 +19,8 @@ pub mod LostRows
 mod OpenedAgain
 pub mod KnownCounts
 pub mod MarkCounts
+pub mod LiveKeys
+pub mod LiveIds
 pub mod MarkChanges
 pub mod OtherKnown
 pub mod MarkRows

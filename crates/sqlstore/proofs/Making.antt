@@ -17,7 +17,7 @@ use Rattle.tables.proofs.Lookups.{by_number}
 use Rattle.tables.proofs.RowMaps.{mapped_some}
 use Rattle.tables.proofs.Rests.{Leaves, leaves}
 use Rattle.tables.specs.Rows.{row_with_security}
-use Rattle.tables.specs.Schema.{decls_tree}
+use Rattle.tables.specs.Schema.{decls_tree, entries_tree}
 use Rattle.transactions.proofs.OtherRows.{changed_others, other_rows}
 use Rattle.transactions.specs.Commits.{KeepsOthers}
 use Rattle.tables.proofs.Lookups.{database_there}
@@ -187,7 +187,9 @@ module _ (new : Database) (name : List ℕ) where
         record {
           row = ap (λ n. option_map found_in (slice_get (filter (is_named n) (new.trees dbs_tree)) 0)) named ∙ ap (option_map found_in) w.row ∙ (λ i. Some ((values i).0, (values i).1, count i));
           counts = uncounted new.trees (at_sequence (sequence + length all) to k) refl refl;
+          ranked = tt;
           indexes = subst (λ n. AreAllIndexes (map declared to.items) n new.trees) (sym here.numbered ∙ ap (λ (v : FoundValues). v.0) values) (writes here).2;
+          counted = tt;
         }
 
 -- a local document says nothing of what is known
@@ -206,11 +208,14 @@ module _ (old new : Database) (number : ℤ) (id : List ℕ) (revision : ℕ) (b
   decls_left : new.trees decls_tree ≡ old.trees decls_tree
   decls_left = left decls_tree (λ a b l. l.decls (omega arith))
 
+  entries_left : new.trees entries_tree ≡ old.trees entries_tree
+  entries_left = left entries_tree (λ a b l. l.entries (omega arith))
+
   pub put_known : (known : Option KnownDatabase) → IsKnown old.trees known → IsKnown new.trees known
-  put_known = one_still old.trees new.trees dbs_left docs_left decls_left
+  put_known = one_still old.trees new.trees dbs_left docs_left decls_left entries_left
 
   pub put_beside : (ks : List KnownDatabase) → AreKnown old.trees ks → AreKnown new.trees ks
-  put_beside = all_still old.trees new.trees dbs_left docs_left decls_left
+  put_beside = all_still old.trees new.trees dbs_left docs_left decls_left entries_left
 
 -- what is known after it, of what was known before
 pub known_after : (trees : Trees) (known : Option KnownDatabase) (name : List ℕ) (sequence : ℕ) (to : Vec Declaration Global) (r : Option KnownDatabase)

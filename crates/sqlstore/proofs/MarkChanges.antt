@@ -1,5 +1,5 @@
 -- What is known of the marks of documents, as they are put in one after another.
-use Rattle.std.proofs.Common.{◌≡◌, ℕ, ◌+◌, List, [], ◌∷◌, ◌++◌, Bool, true, false, cond, Option, None, Some, map, refl, sym, ap, ap₂, subst, ◌∙◌}
+use Rattle.std.proofs.Common.{◌≡◌, ℕ, List, [], ◌∷◌, ◌++◌, Bool, true, false, cond, Option, None, Some, map, refl, sym, ap, ap₂, subst, ◌∙◌}
 use Rattle.std.specs.Prelude.{bytes_eq, ◌||◌}
 use Rattle.std.proofs.lemmas.Cmp.{nat_list_cmp_total}
 use Rattle.std.specs.BTreeMap.{BTreeMap, IsEmpty, get, is_at}
@@ -14,7 +14,7 @@ use Rattle.store.specs.Database.{Database, Document, TextMap, with_all, with_one
 use Rattle.store.specs.Pages.{is_gone}
 use Rattle.store.specs.Writing.{Addition, writings_in, written_at}
 use Rattle.tables.proofs.RowMaps.{mapped_some, text_exact, text_tests}
-use Rattle.sqlstore.specs.Marks.{AreChanges, AreMarks, KeepsElsewhere, mark_of}
+use Rattle.sqlstore.specs.inner.Marks.{AreChanges, AreMarks, KeepsElsewhere, mark_of}
 use Rattle.sqlstore.specs.declared.marked.Marked.{Marked}
 
 abbrev Marks : Type 0

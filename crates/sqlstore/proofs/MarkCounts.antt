@@ -13,7 +13,7 @@ use Rattle.std.specs.Ordering.{is_eq}
 use Rattle.store.specs.Database.{Document, TextMap}
 use Rattle.store.specs.Pages.{is_gone}
 use Rattle.tables.specs.Listings.{has_mark}
-use Rattle.sqlstore.specs.Marks.{AreChanges, AreCounts, mark_of, marked_in, share}
+use Rattle.sqlstore.specs.inner.Marks.{AreChanges, AreCounts, mark_of, marked_in, share}
 use Rattle.sqlstore.specs.declared.document_count.DocumentCount.{DocumentCount}
 use Rattle.sqlstore.specs.declared.known_counts.KnownCounts.{KnownCounts}
 use Rattle.sqlstore.specs.declared.marked.Marked.{Marked}

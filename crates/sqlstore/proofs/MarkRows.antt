@@ -15,12 +15,16 @@ use Rattle.tables.proofs.Tables.{of_these}
 use Rattle.tables.specs.Rows.{database_row}
 use Rattle.tree.specs.Outline.{marked_revision, marked_winner}
 use Rattle.tree.specs.declared.marked_rev.MarkedRev.{MarkedRev}
-use Rattle.sqlstore.specs.Listing.{all_count}
-use Rattle.sqlstore.specs.Marks.{AreCounts, AreCountsAt, KeepsElsewhere, count_in, documents_at, ids_of, mark_of, marked_in}
+use Rattle.ranks.specs.Counts.{AreRanksOf}
+use Rattle.ranks.specs.Seen.{Ranks}
+use Rattle.sqlstore.specs.inner.Listing.{all_count, live_ids}
+use Rattle.sqlstore.specs.inner.Marks.{AreCounts, AreCountsAt, KeepsElsewhere, count_in, documents_at, ids_of, live_keys, mark_of, marked_in}
 use Rattle.sqlstore.specs.declared.document_count.DocumentCount.{DocumentCount}
 use Rattle.sqlstore.specs.declared.known_counts.KnownCounts.{KnownCounts}
 use Rattle.sqlstore.proofs.MarkChanges.{kept_elsewhere}
+use Rattle.sqlstore.proofs.LiveIds.{live_at, ranked_same}
 use Rattle.sqlstore.proofs.OtherKnown.{counted_there}
+use Rattle.std.proofs.lemmas.List.Sorted.{IsPermutation-sym}
 
 module _ (trees : Trees) (db : ℤ) (l : IsLaid trees) where
   -- the mark of a winner is that of the document
@@ -51,6 +55,13 @@ module _ (trees : Trees) (db : ℤ) (l : IsLaid trees) where
 
   pub counts_from : (counts : KnownCounts) → AreCounts counts (documents_at trees db) → AreCountsAt counts db trees
   counts_from counts are deleted = subst (λ n. IfSome (count_in deleted counts) (λ (c : DocumentCount). c.value ≡ n)) (sym (counted_at deleted)) (are deleted)
+
+  -- ranks of the ids of rows are those of the ids of documents
+  pub ranks_at : (ranks : Option Ranks) → IfSome ranks (λ r. AreRanksOf r (live_ids trees db)) → IfSome ranks (λ r. AreRanksOf r (live_keys (documents_at trees db)))
+  ranks_at ranks = ranked_same ranks (live_ids trees db) (live_keys (documents_at trees db)) (live_at trees db l)
+
+  pub ranks_from : (ranks : Option Ranks) → IfSome ranks (λ r. AreRanksOf r (live_keys (documents_at trees db))) → IfSome ranks (λ r. AreRanksOf r (live_ids trees db))
+  ranks_from ranks = ranked_same ranks (live_keys (documents_at trees db)) (live_ids trees db) (IsPermutation-sym _ _ (live_at trees db l))
 
 -- ---- what writes leave
 

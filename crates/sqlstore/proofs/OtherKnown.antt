@@ -1,15 +1,23 @@
 -- What is known of a database after another one was changed, or after a table was that says nothing of it.
 use Rattle.std.specs.Prelude.{if◌then◌else◌}
-use Rattle.sqlstore.proofs.Common.{AllByRecursion, Bool, Contents, IsKnown, IfSome, IsLaid, KnownDatabase, List, None, Option, Row, Some, Trees, [], ap, ap₂, by_sequence, contents_in, database_of, dbs_tree, docs_tree, false, filter, found_in, get, insert, inside, is_in, is_named, known_values, listed_counts, listed_document, listed_mark, map, nat_list_cmp_total, number_of, option_map, refl, remove, slice_get, sort_by, subst, sym, true, ℕ, ℤ, ◌∙◌, ◌∷◌, ◌≡◌, ◌≢◌}
+use Rattle.sqlstore.proofs.Common.{AllByRecursion, Bool, Contents, IsKnown, IfSome, IsLaid, KnownDatabase, List, None, Option, Row, Some, Trees, [], ap, by_sequence, contents_in, database_of, dbs_tree, docs_tree, false, filter, found_in, get, insert, inside, is_in, is_named, known_values, listed_document, listed_mark, map, nat_list_cmp_total, number_of, option_map, remove, slice_get, sort_by, subst, sym, true, ℕ, ◌∙◌, ◌∷◌, ◌≡◌, ◌≢◌}
 use Rattle.std.specs.FinMap as finite
-use Rattle.index.specs.Rows.{is_at_home}
+use Rattle.index.specs.Rows.{count_of, is_at_home}
 use Rattle.index.specs.Shown.{declared, declared_at}
 use Rattle.index.specs.declared.declaration.Declaration.{Declaration}
 use Rattle.sqlstore.proofs.Common.{Global, Vec}
-use Rattle.sqlstore.specs.Listing.{all_count, document_count}
-use Rattle.sqlstore.specs.Reading.{count_kept}
+use Rattle.ranks.specs.Counts.{AreRanksOf}
+use Rattle.std.specs.Prelude.{◌&&◌}
+use Rattle.tables.specs.Rows.{id_of, is_gone as is_gone_row}
+use Rattle.sqlstore.proofs.LiveIds.{live_there, ranked_same}
+use Rattle.sqlstore.specs.inner.Listing.{all_count, document_count, live_ids}
+use Rattle.sqlstore.specs.inner.Marks.{live_keys}
+use Rattle.std.proofs.lemmas.List.Sorted.{IsPermutation-sym, IsPermutation-trans}
+use Rattle.std.specs.List.Sorted.{IsPermutation}
+use Rattle.sqlstore.specs.inner.Reading.{AreKnownEntries, count_kept}
 use Rattle.sqlstore.specs.Standing.{AreKnown, IsKnownDatabase}
 use Rattle.sqlstore.specs.declared.document_count.DocumentCount.{DocumentCount}
+use Rattle.sqlstore.specs.declared.entry_count.EntryCount.{EntryCount}
 use Rattle.std.specs.List.{count_by}
 use Rattle.store.specs.Database as store
 use Rattle.store.specs.Pages.{is_gone}
@@ -18,7 +26,7 @@ use Rattle.tables.proofs.ListingRows.{both_counted, counts_by_sequence}
 use Rattle.tables.proofs.Lookups.{database_there}
 use Rattle.tables.proofs.RowMaps.{mapped_some, text_exact, untied}
 use Rattle.tables.specs.Listings.{has_mark}
-use Rattle.tables.specs.Schema.{decls_tree}
+use Rattle.tables.specs.Schema.{decls_tree, entries_tree}
 use Rattle.transactions.specs.Indexing.{AreKnownIndexes}
 
 -- the rows of documents are as many as the documents of the database
@@ -32,9 +40,15 @@ counted_there trees d l false =
 -- ---- another database was changed
 
 module _ (old new : Trees) (was : IsLaid old) (is : IsLaid new) where
-  other_known : (k : KnownDatabase) → k.indexes ≡ None → filter (is_named k.name) (new dbs_tree) ≡ filter (is_named k.name) (old dbs_tree) → get (contents_in new) k.name ≡ get (contents_in old) k.name
+  -- the ids of the same documents
+  same_ids : (r : Row) → database_of new r ≡ database_of old r → IsPermutation (live_ids old (number_of r)) (live_ids new (number_of r))
+  same_ids r same =
+      IsPermutation-trans _ _ _ (live_there old r was)
+      (subst (λ (db : store.Database). IsPermutation (live_keys db.documents) (live_ids new (number_of r))) same (IsPermutation-sym _ _ (live_there new r is)))
+
+  other_known : (k : KnownDatabase) → k.indexes ≡ None → k.entries ≡ None → filter (is_named k.name) (new dbs_tree) ≡ filter (is_named k.name) (old dbs_tree) → get (contents_in new) k.name ≡ get (contents_in old) k.name
       → IsKnownDatabase old k → IsKnownDatabase new k
-  other_known k none rows same known =
+  other_known k none uncounted rows same known =
       let found = mapped_some found_in (slice_get (filter (is_named k.name) (old dbs_tree)) 0) (known_values k) known.row in
       let r = found.0 in
       let number : number_of r ≡ k.found.number = ap (λ v. v.0) found.2 in
@@ -45,7 +59,9 @@ module _ (old new : Trees) (was : IsLaid old) (is : IsLaid new) where
       record {
         row = ap (λ l. option_map found_in (slice_get l 0)) rows ∙ known.row;
         counts = λ deleted. subst (λ n. IfSome (count_kept deleted k) (λ (c : DocumentCount). c.value ≡ n)) (count deleted) (known.counts deleted);
+        ranked = ranked_same k.ranks (live_ids old k.found.number) (live_ids new k.found.number) (subst (λ n. IsPermutation (live_ids old n) (live_ids new n)) number (same_ids r database)) known.ranked;
         indexes = subst (λ o. AreKnownIndexes o k.found.number new) (sym none) tt;
+        counted = subst (AreKnownEntries new) (sym uncounted) tt;
       }
 
   -- each of those that were asked for before is another one
@@ -54,7 +70,7 @@ module _ (old new : Trees) (was : IsLaid old) (is : IsLaid new) where
       → ((other : List ℕ) → other ≢ name → get (contents_in new) other ≡ get (contents_in old) other) → AreKnown old ks → AreKnown new ks
   others_known name [] apart rows same known = tt
   others_known name (k ∷ ks) apart rows same known = (
-    (other_known k known.0.1 (rows k.name apart.0) (same k.name apart.0) known.0.0, known.0.1),
+    (other_known k known.0.1 known.0.2 (rows k.name apart.0) (same k.name apart.0) known.0.0, known.0.1, known.0.2),
     others_known name ks apart.1 rows same known.1,
   )
 
@@ -69,19 +85,21 @@ removed_other m name other apart =
 
 -- ---- the tables that say something of a database are as they were
 
-module _ (old new : Trees) (dbs : new dbs_tree ≡ old dbs_tree) (docs : new docs_tree ≡ old docs_tree) (decls : new decls_tree ≡ old decls_tree) where
+module _ (old new : Trees) (dbs : new dbs_tree ≡ old dbs_tree) (docs : new docs_tree ≡ old docs_tree) (decls : new decls_tree ≡ old decls_tree) (entries : new entries_tree ≡ old entries_tree) where
   known_still : (k : KnownDatabase) → IsKnownDatabase old k → IsKnownDatabase new k
   known_still k known = record {
     row = ap (λ rows. option_map found_in (slice_get (filter (is_named k.name) rows) 0)) dbs ∙ known.row;
     counts = λ deleted.
         subst (λ (rows : List Row). IfSome (count_kept deleted k) (λ (c : DocumentCount). c.value ≡ count_by (λ s. has_mark deleted (listed_mark s)) (map listed_document (sort_by by_sequence (filter (is_in k.found.number) rows)))))
         (sym docs) (known.counts deleted);
+    ranked = subst (λ (rows : List Row). IfSome k.ranks (λ r. AreRanksOf r (map id_of (filter (λ r. is_in k.found.number r && has_mark false (is_gone_row r)) rows)))) (sym docs) known.ranked;
     indexes = subst (λ (rows : List Row). IfSome k.indexes (λ (all : Vec Declaration Global). map declared all.items ≡ map declared_at (filter (is_at_home k.found.number) rows))) (sym decls) known.indexes;
+    counted = subst (λ (rows : List Row). IfSome k.entries (λ (cs : Vec EntryCount Global). AllByRecursion (λ (c : EntryCount). c.value ≡ count_of c.declaration [] (8 ∷ []) rows) cs.items)) (sym entries) known.counted;
   }
 
   pub all_still : (ks : List KnownDatabase) → AreKnown old ks → AreKnown new ks
   all_still [] known = tt
-  all_still (k ∷ ks) known = ((known_still k known.0.0, known.0.1), all_still ks known.1)
+  all_still (k ∷ ks) known = ((known_still k known.0.0, known.0.1, known.0.2), all_still ks known.1)
 
   pub one_still : (known : Option KnownDatabase) → IsKnown old known → IsKnown new known
   one_still None h = tt

@@ -3,7 +3,7 @@ use Rattle.sqlstore.proofs.Common.{Asks, Database, Err, Error, Finds, Ghosts, Ha
 use Rattle.index.specs.Layout.{HasIndexRows}
 use Rattle.transactions.proofs.IndexSteps.{rows_of}
 use Rattle.transactions.specs.Indexing.{IsIndexedStore}
-use Rattle.sqlstore.specs.Causes.{IsJudged}
+use Rattle.sqlstore.specs.inner.Causes.{IsJudged}
 use Rattle.sqlstore.proofs.Common.{IsKnown, ∥∥₁_prop}
 use Rattle.sqlstore.specs.Standing.{AreKnown}
 
@@ -57,6 +57,11 @@ module _ {S : Type 0} (g : Ghosts S) (old new origin last : Held S) where
 -- it stands too where nothing is known of a database
 pub dropped : {S : Type 0} (g : Ghosts S) {conn origin last : Held S} {known : Option KnownDatabase} {earlier : List KnownDatabase} → IsStanding g conn origin last known earlier → IsStanding g conn origin last None earlier
 dropped g s = record { idle = s.idle; unlimited = s.unlimited; held = s.held; known_so = λ clean is. ∣ tt ∣₁; earlier_so = s.earlier_so }
+
+-- and where something else is known of it
+pub known_less : {S : Type 0} (g : Ghosts S) {conn origin last : Held S} {known less : Option KnownDatabase} {earlier : List KnownDatabase} → ((trees : Trees) → IsKnown trees known → IsKnown trees less)
+    → IsStanding g conn origin last known earlier → IsStanding g conn origin last less earlier
+known_less g {last = last} so s = record { idle = s.idle; unlimited = s.unlimited; held = s.held; known_so = λ clean is. ∥∥₁_map (s.known_so clean is) (so (state g last).now.trees); earlier_so = s.earlier_so }
 
 -- and where what was known of the latest one is put to those before it
 pub kept_before : {S : Type 0} (g : Ghosts S) {conn origin last : Held S} {known : Option KnownDatabase} {earlier more : List KnownDatabase}

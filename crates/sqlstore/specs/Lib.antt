@@ -1,11 +1,5 @@
-pub mod Causes
-pub mod Reading
-pub mod Listing
-pub mod Marks
 pub mod Standing
 pub mod Model
-pub mod Commits
-pub mod ById
-pub mod ByKey
 pub mod Revisions
 pub mod Opening
+pub mod inner

@@ -11,7 +11,7 @@ use Rattle.store.specs.Contents.{Contents}
 use Rattle.store.specs.Database.{Database, DocumentWrite}
 use Rattle.store.specs.Leaving as leaving
 use Rattle.store.specs.declared.fault.StoreFault.{StoreFault}
-use Rattle.sqlstore.specs.Causes.{IsJudged}
+use Rattle.sqlstore.specs.inner.Causes.{IsJudged}
 use Rattle.sqlstore.specs.Standing.{WasStore}
 use Rattle.tables.specs.Rows.{contents_in, next_number}
 use Rattle.tables.specs.Schema.{dbs_tree}

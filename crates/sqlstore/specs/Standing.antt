@@ -11,25 +11,29 @@ use Rattle.tables.specs.Rows.{is_named}
 use Rattle.tables.specs.Schema.{dbs_tree}
 use Rattle.index.specs.Indexed.{IsIndexed}
 use Rattle.transactions.specs.Indexing.{AreKnownIndexes, IsIndexedStore}
-use Rattle.sqlstore.specs.Listing.{all_count}
-use Rattle.sqlstore.specs.Reading.{count_kept, found_in, known_values}
+use Rattle.ranks.specs.Counts.{AreRanksOf}
+use Rattle.sqlstore.specs.inner.Listing.{all_count, live_ids}
+use Rattle.sqlstore.specs.inner.Reading.{AreKnownEntries, count_kept, found_in, known_values}
 use Rattle.sqlstore.specs.declared.known_database.KnownDatabase.{KnownDatabase}
 
--- What is known of a database is what its row says, each count that is known is that of its documents, and its indexes, where they are
--- known, are all that it has.
+-- What is known of a database is what its row says. Each count that is known is that of its documents, and the ranks, where they are
+-- known, are those of the ids that are not deleted. Its indexes, where they are known, are all that it has, and each number of entries
+-- that is known is that of its index.
 pub record IsKnownDatabase (trees : Trees) (k : KnownDatabase) : Type 0 where
   pub row : option_map found_in (slice_get (filter (is_named k.name) (trees dbs_tree)) 0) ≡ Some (known_values k)
   pub counts : (deleted : Bool) → IfSome (count_kept deleted k) (λ c. c.value ≡ all_count trees k.found.number deleted)
+  pub ranked : IfSome k.ranks (λ r. AreRanksOf r (live_ids trees k.found.number))
   pub indexes : AreKnownIndexes k.indexes k.found.number trees
+  pub counted : AreKnownEntries trees k.entries
 
 -- the same, where something is known
 abbrev pub IsKnown : Trees → Option KnownDatabase → Type 0
 IsKnown trees None = ⊤
 IsKnown trees (Some k) = IsKnownDatabase trees k
 
--- the same of each of those that were asked for before; of them no index is known
+-- the same of each of those that were asked for before; of them neither an index is known, nor how many entries one has
 abbrev pub AreKnown : Trees → List KnownDatabase → Type 0
-AreKnown trees ks = AllByRecursion (λ k. IsKnownDatabase trees k × (k.indexes ≡ None)) ks
+AreKnown trees ks = AllByRecursion (λ k. IsKnownDatabase trees k × (k.indexes ≡ None) × (k.entries ≡ None)) ks
 
 module _ {S : Type 0} (g : Ghosts S) where
   -- The tables are laid out as the last change left them, and the rows of indexes are those of what is stored. An open connection has

@@ -4,7 +4,7 @@ ghost use Rattle.std.specs.Prelude.{◌≡◌, IfErr, IfOk, IsTrue, Some, map};
 ghost use Rattle.std.specs.List.{AllByRecursion};
 ghost use Rattle.store.specs.DatabaseName.{is_database_name};
 ghost use Rattle.transactions.specs.Reading.{IsLost, IsRead};
-ghost use Rattle.sqlstore.specs.Reading.{IsShownName, name_shown};
+ghost use Rattle.sqlstore.specs.inner.Reading.{IsShownName, name_shown};
 
 use sqlite::Row;
 use sqlite_value::value::ValueRef;

@@ -1,9 +1,9 @@
 //! What a store makes of an error of SQLite, and of writes that were not done.
 
 ghost use Rattle.std.specs.Prelude.{◌≡◌, ◌≤◌, Err, IfErr, IfOk, Ok};
-ghost use Rattle.sqlstore.specs.Causes.{IsJudged};
+ghost use Rattle.sqlstore.specs.inner.Causes.{IsJudged};
 ghost use Rattle.index.specs.declared.fault.IndexFault.{IndexFault as TheFault};
-ghost use Rattle.sqlstore.specs.Commits.{IsIndexToldAs, IsToldAs};
+ghost use Rattle.sqlstore.specs.inner.Commits.{IsIndexToldAs, IsToldAs};
 
 use index::IndexFault;
 use sqlite::{Error, ErrorCode, Row};

@@ -6,7 +6,7 @@ ghost use Rattle.couch_json.specs.View.{view};
 ghost use Rattle.policy.specs.Security.{is_security};
 ghost use Rattle.tables.specs.Shown.{IsShownDatabase, IsShownHash, IsShownLocal, local_shown};
 ghost use Rattle.transactions.specs.Reading.{IsLost, IsRead};
-ghost use Rattle.sqlstore.specs.Reading.{EndsPath, found_shown};
+ghost use Rattle.sqlstore.specs.inner.Reading.{EndsPath, found_shown};
 
 use couch_json::Json;
 use policy::{Security, SecurityFault};
@@ -18,7 +18,8 @@ use tree::Rev;
 
 /// Reads the database of the first row, if there is one.
 pub(crate) fn first_database(alloc: Global, rows: &[Row]) -> Result<FoundDatabase, StoreFault>
-    ensures { IsRead (λ d. (d.number, view d.security, d.sequence)) (option_map found_shown (slice_get rows.now 0)) (AllByRecursion IsShownDatabase rows.now) result }
+    ensures { IsRead (λ d. (d.number, view d.security, d.sequence)) (option_map found_shown (slice_get rows.now 0))
+        (AllByRecursion IsShownDatabase rows.now) result }
 {
     let Some(row) = rows.first() else {
         return Err(StoreFault::NoDatabase);

@@ -1,7 +1,7 @@
 //! The bounds of bytes between which the ids of a range lie.
 
 ghost use Rattle.std.specs.Prelude.{◌≡◌, ◌++◌, ◌∷◌, [], ℕ, IfOk, IsUtf8, List, if◌then◌else◌};
-ghost use Rattle.sqlstore.specs.ById.{IsHighIdBound, IsLowIdBound, is_at_least, lies_above};
+ghost use Rattle.sqlstore.specs.inner.ById.{IsHighIdBound, IsLowIdBound, is_at_least, lies_above};
 
 use couch_json::Got;
 use std::alloc::Global;

@@ -15,6 +15,9 @@ use store::{
 };
 use tree::{DocId, Entry, History, MarkedRev, Outline, Rev};
 
+/// How many keys a segment of ranks begins with: few, since tests have few documents.
+const SEGMENT_LENGTH: usize = 4;
+
 /// A store over tables in memory, which began without databases. Memory returns what was written, so
 /// what it answers is so without a premise.
 pub struct MemoryStore {
@@ -36,7 +39,10 @@ impl MemoryStore {
     {
         let conn = Connection::open_in_memory(alloc)?;
         match SqlStore::open(alloc, conn) {
-            Ok(store) => Ok(MemoryStore { store }),
+            Ok(mut store) => {
+                store.set_segment_length(SEGMENT_LENGTH);
+                Ok(MemoryStore { store })
+            }
             Err((OpenFault::Memory, _)) => Err(StoreFault::Memory),
             Err((OpenFault::Failed | OpenFault::NotOurs, _)) => Err(StoreFault::Failed),
         }
@@ -48,7 +54,10 @@ impl MemoryStore {
     {
         let MemoryStore { store } = self;
         match store.reopen() {
-            Ok(store) => Ok(MemoryStore { store }),
+            Ok(mut store) => {
+                store.set_segment_length(SEGMENT_LENGTH);
+                Ok(MemoryStore { store })
+            }
             Err((OpenFault::Memory, _)) => Err(StoreFault::Memory),
             Err((OpenFault::Failed | OpenFault::NotOurs, _)) => Err(StoreFault::Failed),
         }

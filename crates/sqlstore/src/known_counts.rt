@@ -4,7 +4,7 @@ ghost use Rattle.std.specs.Prelude.{◌≡◌, ◌+◌, IfSome, Some};
 ghost use Rattle.std.specs.FinMap as map;
 ghost use Rattle.store.specs.Database.{Document, TextMap};
 ghost use Rattle.store.specs.Pages.{is_gone};
-ghost use Rattle.sqlstore.specs.Marks.{AreChanges, AreCounts, mark_of, share};
+ghost use Rattle.sqlstore.specs.inner.Marks.{AreChanges, AreCounts, mark_of, share};
 ghost use Rattle.sqlstore.specs.declared.document_count.DocumentCount.{DocumentCount as CountValue};
 
 use crate::document_count::DocumentCount;
@@ -45,7 +45,8 @@ impl KnownCounts {
 
 /// Moves the count of the documents whose winner is marked so, after one document was written.
 fn move_count(count: Option<DocumentCount>, deleted: bool, change: &Marked) -> Option<DocumentCount>
-    ensures { IfSome result (λ now. (was : CountValue) × (count ≡ Some was) × (now.value + share deleted change.now.was ≡ was.value + share deleted (Some change.now.is))) }
+    ensures { IfSome result
+        (λ now. (was : CountValue) × (count ≡ Some was) × (now.value + share deleted change.now.was ≡ was.value + share deleted (Some change.now.is))) }
 {
     let more = count?.value + share_of(Some(change.is), deleted);
     let value = more.checked_sub(share_of(change.was, deleted))?;

@@ -1,20 +1,27 @@
 //! What is known of a database from when it was last asked for.
 
-ghost use Rattle.std.specs.Prelude.{◌≡◌, IfSome};
+ghost use Rattle.std.specs.Prelude.{◌≡◌, IfSome, None};
+ghost use Rattle.ranks.specs.Counts.{AreRanksOf};
 ghost use Rattle.sqlite_trees.specs.Tree.{Trees};
-ghost use Rattle.sqlstore.specs.Listing.{all_count};
-ghost use Rattle.sqlstore.specs.Marks.{AreCountsAt};
-ghost use Rattle.sqlstore.specs.Reading.{at_sequence, count_kept, counts_of, with_count, with_counts, without_indexes};
+ghost use Rattle.sqlstore.specs.inner.Listing.{all_count, live_ids};
+ghost use Rattle.sqlstore.specs.inner.Marks.{AreCountsAt};
+ghost use Rattle.sqlstore.specs.inner.Reading.{at_sequence, count_kept, counts_of, with_count, with_counts, with_entries, with_ranks, without_indexes};
+ghost use Rattle.sqlstore.specs.inner.Reading.{entry_count};
 ghost use Rattle.sqlstore.specs.Standing.{IsKnown};
 ghost use Rattle.transactions.specs.Indexing.{AreKnownIndexes};
 
 use crate::document_count::DocumentCount;
+use crate::entry_count::EntryCount;
+use crate::entry_counts::{find_entries, put_entries};
 use crate::known_counts::KnownCounts;
 use index::Declaration;
+use ranks::Ranks;
+use std::alloc::Global;
 use store::DbName;
 use tables::FoundDatabase;
 
-/// A database and what its row says, how many documents it has, and its indexes.
+/// A database and what its row says, how many documents it has, the ranks of their ids, its indexes, and how
+/// many entries these have.
 #[derive(Drop)]
 pub(crate) struct KnownDatabase {
     /// Its name.
@@ -25,8 +32,12 @@ pub(crate) struct KnownDatabase {
     pub(crate) live: Option<DocumentCount>,
     /// How many have a winner that is deleted, where that was counted.
     pub(crate) deleted: Option<DocumentCount>,
+    /// The ranks of the ids of those that are not deleted, where they were made.
+    pub(crate) ranks: Option<Ranks>,
     /// Its indexes, where they were listed.
     pub(crate) indexes: Option<Vec<Declaration>>,
+    /// How many entries indexes have, where some were counted.
+    pub(crate) entries: Option<Vec<EntryCount>>,
 }
 
 /// The number of a database and its sequence.
@@ -59,7 +70,9 @@ impl KnownDatabase {
             mut found,
             live: _,
             deleted: _,
+            ranks: _,
             indexes: _,
+            entries: _,
         } = self;
         found.sequence = sequence;
         KnownDatabase {
@@ -67,11 +80,13 @@ impl KnownDatabase {
             found,
             live: None,
             deleted: None,
+            ranks: None,
             indexes: Some(indexes),
+            entries: None,
         }
     }
 
-    /// Parts it from its indexes.
+    /// Parts it from its indexes. How many entries they have is forgotten.
     pub(crate) fn split(self) -> (KnownDatabase, Option<Vec<Declaration>>)
         ensures known { result.0 ≡ without_indexes self }
         ensures indexes { result.1 ≡ self.indexes }
@@ -81,16 +96,58 @@ impl KnownDatabase {
             found,
             live,
             deleted,
+            ranks,
             indexes,
+            entries: _,
         } = self;
         let known = KnownDatabase {
             name,
             found,
             live,
             deleted,
+            ranks,
             indexes: None,
+            entries: None,
         };
         (known, indexes)
+    }
+
+    /// Returns it with these ranks.
+    fn with_ranks(self, ranks: Option<Ranks>) -> KnownDatabase
+        ensures { result ≡ with_ranks ranks self }
+    {
+        let mut known = self;
+        known.ranks = ranks;
+        known
+    }
+
+    /// Parts it from its ranks.
+    fn split_ranks(self) -> (KnownDatabase, Option<Ranks>)
+        ensures known { result.0 ≡ with_ranks None self }
+        ensures ranks { result.1 ≡ self.ranks }
+    {
+        let mut known = self;
+        let ranks = known.ranks.take();
+        (known, ranks)
+    }
+
+    /// Returns it with these numbers of entries.
+    fn with_entries(self, entries: Option<Vec<EntryCount>>) -> KnownDatabase
+        ensures { result ≡ with_entries entries self }
+    {
+        let mut known = self;
+        known.entries = entries;
+        known
+    }
+
+    /// Parts it from how many entries its indexes have.
+    fn split_entries(self) -> (KnownDatabase, Option<Vec<EntryCount>>)
+        ensures known { result.0 ≡ with_entries None self }
+        ensures entries { result.1 ≡ self.entries }
+    {
+        let mut known = self;
+        let entries = known.entries.take();
+        (known, entries)
     }
 
     /// Returns how many documents have a winner that is marked so, where that was counted.
@@ -119,14 +176,18 @@ impl KnownDatabase {
             found,
             live: _,
             deleted: _,
+            ranks,
             indexes,
+            entries,
         } = self;
         KnownDatabase {
             name,
             found,
             live: counts.live,
             deleted: counts.deleted,
+            ranks,
             indexes,
+            entries,
         }
     }
 
@@ -139,14 +200,18 @@ impl KnownDatabase {
             found,
             live,
             deleted: gone,
+            ranks,
             indexes,
+            entries,
         } = self;
         KnownDatabase {
             name,
             found,
             live: if deleted { live } else { Some(count) },
             deleted: if deleted { Some(count) } else { gone },
+            ranks,
             indexes,
+            entries,
         }
     }
 }
@@ -229,4 +294,62 @@ pub(crate) fn take_indexes(
     }
     let (known, indexes) = known.split();
     (Some(known), indexes)
+}
+
+/// Parts what is known from the ranks of the database of this number, where it is the known one.
+pub(crate) fn take_ranks(
+    known: Option<KnownDatabase>,
+    number: &i64,
+) -> (Option<KnownDatabase>, Option<Ranks>)
+    ensures known { (trees : Trees) → IsKnown trees known → IsKnown trees result.0 }
+    ensures ranks { (trees : Trees) → IsKnown trees known → IfSome result.1 (λ r. AreRanksOf r (live_ids trees number.now)) }
+{
+    let Some(known) = known else {
+        return (None, None);
+    };
+    if known.found.number != *number {
+        return (Some(known), None);
+    }
+    let (known, ranks) = known.split_ranks();
+    (Some(known), ranks)
+}
+
+/// Returns what is known, with these ranks of the database of this number, where it is the known one.
+pub(crate) fn keep_ranks(
+    known: Option<KnownDatabase>,
+    number: &i64,
+    ranks: Option<Ranks>,
+) -> Option<KnownDatabase>
+    ensures { (trees : Trees) → IsKnown trees known → IfSome ranks (λ r. AreRanksOf r (live_ids trees number.now)) → IsKnown trees result }
+{
+    let known = known?;
+    if *number != known.found.number {
+        return Some(known);
+    }
+    Some(known.with_ranks(ranks))
+}
+
+/// Finds how many entries the index of this declaration has, where that is known.
+pub(crate) fn find_entry_count(
+    known: &Option<KnownDatabase>,
+    declaration: &i64,
+) -> Option<EntryCount>
+    ensures { (trees : Trees) → IsKnown trees known.now → IfSome result (λ count. count.value ≡ entry_count trees declaration.now) }
+{
+    let known = known.as_ref()?;
+    let counts = known.entries.as_ref()?;
+    find_entries(counts, declaration)
+}
+
+/// Returns what is known, with how many entries an index has.
+pub(crate) fn keep_entry_count(
+    alloc: Global,
+    known: Option<KnownDatabase>,
+    count: EntryCount,
+) -> Option<KnownDatabase>
+    ensures { (trees : Trees) → IsKnown trees known → count.value ≡ entry_count trees count.declaration → IsKnown trees result }
+{
+    let known = known?;
+    let (known, entries) = known.split_entries();
+    Some(known.with_entries(put_entries(alloc, entries, count)))
 }

@@ -16,7 +16,8 @@ use sqlite::Alter;
 /// those of its documents, each once.
 pub fn index_rows_equal_a_rebuild<S: Alter>(store: &SqlStore<S>)
     ensures rows { is_honest S.Store store.now → IsTrue (state S.Store store.now.conn).is_open → ∥ IsIndexedStore (state S.Store store.now.conn).now ∥₁ }
-    ensures contents { is_honest S.Store store.now → IsTrue (state S.Store store.now.conn).is_open → contents_in (state S.Store store.now.conn).now.trees ≡ contents_of S.Store store.now }
+    ensures contents { is_honest S.Store store.now → IsTrue (state S.Store store.now.conn).is_open
+        → contents_in (state S.Store store.now.conn).now.trees ≡ contents_of S.Store store.now }
 {}
 
 /// Each revision that an honest store knows can be written as text, and is read back from it. So databases in

@@ -4,6 +4,8 @@
 mod database_names;
 mod document_count;
 mod earlier;
+mod entry_count;
+mod entry_counts;
 mod fault;
 mod first_rows;
 mod id_bounds;
@@ -13,6 +15,7 @@ mod known_database;
 pub mod laws;
 mod listings;
 mod marked;
+mod moved_ranks;
 mod open_fault;
 mod opening;
 mod sql_store;

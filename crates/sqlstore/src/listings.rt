@@ -5,7 +5,7 @@ ghost use Rattle.std.specs.List.{AllByRecursion};
 ghost use Rattle.store.specs.Pages.{sequence_page, up_to_limit};
 ghost use Rattle.store.specs.PageStructs.{IsBounded, sequence_page_of, sequence_row_of, sequence_rows};
 ghost use Rattle.tables.specs.Listings.{IsListedDocument, listed_id, listed_mark, listed_sequence, listed_winner, live_row, live_rows, sequence_row};
-ghost use Rattle.sqlstore.specs.Listing.{IsSequenceRow};
+ghost use Rattle.sqlstore.specs.inner.Listing.{IsSequenceRow};
 ghost use Rattle.transactions.specs.Reading.{IsLost, IsRead};
 
 use sqlite::Row;
@@ -37,7 +37,8 @@ pub(crate) fn read_page_by_sequence(
 ) -> Result<PageBySeq, StoreFault>
     requires bounded { (sequence < 2 ^ 63) × IfSome counts (λ c. (c.documents < 2 ^ 63) × (c.deleted < 2 ^ 63)) }
     requires counted { is_some counts ≡ range.now.counted }
-    ensures page { IsRead sequence_page_of (Some (sequence_page range.now sequence counts (map sequence_row rows.items))) (AllByRecursion IsSequenceRow rows.items) result }
+    ensures page { IsRead sequence_page_of (Some (sequence_page range.now sequence counts (map sequence_row rows.items)))
+        (AllByRecursion IsSequenceRow rows.items) result }
     ensures bounded { IfOk result (IsBounded range.now) }
 {
     let read = read_sequence_rows(alloc, rows)?;

@@ -27,8 +27,10 @@ pub(crate) fn find_tables<S: Alter>(
     requires { conn.old.in_transaction ≡ false }
     // Where there was a store it is found as it was, where there was one of the first version it is
     // carried over, and where there was nothing it is made.
-    ensures found { HasCleanDisk (state S.Store conn.new) → IsStore (state S.Store conn.old).now → OnOk result ((state S.Store conn.new).now ≡ (state S.Store conn.old).now) }
-    ensures carried { HasCleanDisk (state S.Store conn.new) → IsFirstStore (state S.Store conn.old).now → OnOk result (IsCarriedOver (state S.Store conn.old).now (state S.Store conn.new).now) }
+    ensures found { HasCleanDisk (state S.Store conn.new) → IsStore (state S.Store conn.old).now
+        → OnOk result ((state S.Store conn.new).now ≡ (state S.Store conn.old).now) }
+    ensures carried { HasCleanDisk (state S.Store conn.new) → IsFirstStore (state S.Store conn.old).now
+        → OnOk result (IsCarriedOver (state S.Store conn.old).now (state S.Store conn.new).now) }
     ensures made { HasCleanDisk (state S.Store conn.new) → conn.old.schema ≡ no_schema → OnOk result (IsNew (state S.Store conn.new).now) }
     ensures not_ours { result ≡ Err OpenFault.NotOurs → HasCleanDisk (state S.Store conn.new) → ¬ IsStore (state S.Store conn.old).now }
     ensures not_first { result ≡ Err OpenFault.NotOurs → HasCleanDisk (state S.Store conn.new) → ¬ IsFirstStore (state S.Store conn.old).now }
@@ -42,10 +44,12 @@ pub(crate) fn find_tables<S: Alter>(
 
     // What is opened has none of the tables or all, and if they are those of this layout, one of the two versions.
     ensures all { OnOk result (has_any conn.old.schema ≡ true → has_all conn.old.schema ≡ true) }
-    ensures version { HasCleanDisk (state S.Store conn.new) → conn.old.schema ≡ schema → OnOk result (version_in ((state S.Store conn.old).now.trees meta_tree) ≢ FileVersion.Other) }
+    ensures version { HasCleanDisk (state S.Store conn.new) → conn.old.schema ≡ schema
+        → OnOk result (version_in ((state S.Store conn.old).now.trees meta_tree) ≢ FileVersion.Other) }
 
     // Where it is refused the rows are as they were, if tables of these names are those of this layout.
-    ensures refused { (has_all conn.old.schema ≡ true → conn.old.schema ≡ schema) → HasCleanDisk (state S.Store conn.new) → IsTrue (state S.Store conn.new).is_open
+    ensures refused { (has_all conn.old.schema ≡ true → conn.old.schema ≡ schema) → HasCleanDisk (state S.Store conn.new)
+        → IsTrue (state S.Store conn.new).is_open
         → OnErr result (((state S.Store conn.new).now ≡ (state S.Store conn.old).now) ⊎ ((state S.Store conn.new).now ≡ (state S.Store conn.old).committed)) }
     ensures turns { Turns S.Store conn.old conn.new }
     ensures served { HasCleanDisk (state S.Store conn.new) → OnOk result (IsTrue (state S.Store conn.old).is_open) }
@@ -61,7 +65,8 @@ pub(crate) fn find_tables<S: Alter>(
 /// Carries a file of the first version over to this one.
 fn renew_file<S: Alter>(alloc: Global, conn: &mut Connection<S>) -> Result<(), OpenFault>
     requires { conn.old.in_transaction ≡ false }
-    ensures ok { HasCleanDisk (state S.Store conn.new) → IsFirstStore (state S.Store conn.old).now → OnOk result (IsCarriedOver (state S.Store conn.old).now (state S.Store conn.new).now) }
+    ensures ok { HasCleanDisk (state S.Store conn.new) → IsFirstStore (state S.Store conn.old).now
+        → OnOk result (IsCarriedOver (state S.Store conn.old).now (state S.Store conn.new).now) }
     ensures not_ours { result ≡ Err OpenFault.NotOurs → HasCleanDisk (state S.Store conn.new) → ¬ IsFirstStore (state S.Store conn.old).now }
     ensures turns { Turns S.Store conn.old conn.new }
     ensures undone { conn.old.schema ≡ schema → IsUndone S.Store conn.old conn.new result }
@@ -78,14 +83,18 @@ fn renew_file<S: Alter>(alloc: Global, conn: &mut Connection<S>) -> Result<(), O
 /// Finds the tables at their version, and carries those of the first version over.
 fn find_version<S: Alter>(alloc: Global, conn: &mut Connection<S>) -> Result<(), OpenFault>
     requires { conn.old.in_transaction ≡ false }
-    ensures found { HasCleanDisk (state S.Store conn.new) → IsStore (state S.Store conn.old).now → OnOk result ((state S.Store conn.new).now ≡ (state S.Store conn.old).now) }
-    ensures carried { HasCleanDisk (state S.Store conn.new) → IsFirstStore (state S.Store conn.old).now → OnOk result (IsCarriedOver (state S.Store conn.old).now (state S.Store conn.new).now) }
+    ensures found { HasCleanDisk (state S.Store conn.new) → IsStore (state S.Store conn.old).now
+        → OnOk result ((state S.Store conn.new).now ≡ (state S.Store conn.old).now) }
+    ensures carried { HasCleanDisk (state S.Store conn.new) → IsFirstStore (state S.Store conn.old).now
+        → OnOk result (IsCarriedOver (state S.Store conn.old).now (state S.Store conn.new).now) }
     ensures not_ours { result ≡ Err OpenFault.NotOurs → HasCleanDisk (state S.Store conn.new) → ¬ IsStore (state S.Store conn.old).now }
     ensures not_first { result ≡ Err OpenFault.NotOurs → HasCleanDisk (state S.Store conn.new) → ¬ IsFirstStore (state S.Store conn.old).now }
-    ensures unreadable { result ≡ Err OpenFault.NotOurs → HasCleanDisk (state S.Store conn.new) → conn.old.schema ≡ schema → IsUnreadable (state S.Store conn.old).now }
+    ensures unreadable { result ≡ Err OpenFault.NotOurs → HasCleanDisk (state S.Store conn.new) → conn.old.schema ≡ schema
+        → IsUnreadable (state S.Store conn.old).now }
     ensures failed { HasCleanDisk (state S.Store conn.new) → conn.old.schema ≡ schema → version_of (state S.Store conn.old).now ≢ FileVersion.First
         → IfErr result (λ fault. fault ≢ OpenFault.NotOurs → FailsToRead S.Store conn.old conn.new fault) }
-    ensures version { HasCleanDisk (state S.Store conn.new) → conn.old.schema ≡ schema → OnOk result (version_in ((state S.Store conn.old).now.trees meta_tree) ≢ FileVersion.Other) }
+    ensures version { HasCleanDisk (state S.Store conn.new) → conn.old.schema ≡ schema
+        → OnOk result (version_in ((state S.Store conn.old).now.trees meta_tree) ≢ FileVersion.Other) }
     ensures refused { conn.old.schema ≡ schema → HasCleanDisk (state S.Store conn.new) → IsTrue (state S.Store conn.new).is_open
         → OnErr result (((state S.Store conn.new).now ≡ (state S.Store conn.old).now) ⊎ ((state S.Store conn.new).now ≡ (state S.Store conn.old).committed)) }
     ensures turns { Turns S.Store conn.old conn.new }

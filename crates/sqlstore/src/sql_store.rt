@@ -12,6 +12,7 @@ mod listing_rows;
 mod marking;
 mod one_document;
 mod page_rows;
+mod ranking;
 mod rows;
 
 use crate::known_database::KnownDatabase;
@@ -19,7 +20,11 @@ use crate::open_fault::OpenFault;
 use crate::opening::find_tables;
 use sqlite::{Alter, Connection};
 use std::alloc::Global;
+use std::cmp::max;
 use std::snapshot::Snapshot;
+
+/// How many keys a segment of ranks begins with.
+const SEGMENT_LENGTH: usize = 256;
 
 /// A store of databases over the tables of a connection.
 pub struct SqlStore<S: Alter> {
@@ -36,6 +41,8 @@ pub struct SqlStore<S: Alter> {
     faults: u64,
     /// How many rows the queries of reading calls have taken; it stays at the greatest number.
     fetched: u64,
+    /// How many keys a segment of ranks begins with; it is split where it has more than twice as many.
+    segment: usize,
     ghost standing: { IsStanding S.Store conn origin.value last.value known earlier.items },
 }
 
@@ -51,12 +58,22 @@ impl<S: Alter + Drop> Drop for SqlStore<S> {
             earlier: _,
             faults: _,
             fetched: _,
+            segment: _,
         } = self;
     }
 }
 
 impl<S: Alter> SqlStore<S> {
-    ghost use Rattle.sqlstore.specs.Model.{fault_count};
+    ghost use Rattle.sqlstore.specs.Model.{Stands, fault_count, is_honest};
+
+    /// Sets how many keys a segment of ranks begins with, at least one. Tests set few, so that small
+    /// databases have many segments.
+    pub(crate) fn set_segment_length(&mut self, keys: usize)
+        ensures stands { Stands S.Store self.old self.new }
+        ensures honest { is_honest S.Store self.old → is_honest S.Store self.new }
+    {
+        self.segment = max(keys, 1);
+    }
 }
 
 impl<S: Alter + Drop> SqlStore<S> {
@@ -83,15 +100,21 @@ impl<S: Alter + Drop> SqlStore<S> {
         mut conn: Connection<S>,
     ) -> Result<SqlStore<S>, (OpenFault, Connection<S>)>
         // Where there was a store, with the rows of its indexes, it is opened as it was; and where there was nothing it has no database.
-        ensures found { IfOk result (λ s. is_clean S.Store s → IsIndexedStore (state S.Store conn).now → is_honest S.Store s × (contents_of S.Store s ≡ contents_in (state S.Store conn).now.trees)) }
+        ensures found { IfOk result
+            (λ s. is_clean S.Store s → IsIndexedStore (state S.Store conn).now → is_honest S.Store s
+            × (contents_of S.Store s ≡ contents_in (state S.Store conn).now.trees)) }
         // One of the first version is opened with what it held, and with the rows of its indexes made anew.
-        ensures carried { IfOk result (λ s. is_clean S.Store s → IsFirstStore (state S.Store conn).now → is_honest S.Store s × (contents_of S.Store s ≡ contents_in (state S.Store conn).now.trees)) }
+        ensures carried { IfOk result
+            (λ s. is_clean S.Store s → IsFirstStore (state S.Store conn).now → is_honest S.Store s
+            × (contents_of S.Store s ≡ contents_in (state S.Store conn).now.trees)) }
         ensures made { IfOk result (λ s. is_clean S.Store s → conn.schema ≡ no_schema → is_honest S.Store s × (contents_of S.Store s ≡ empty)) }
         ensures no_faults { IfOk result (λ s. fault_count S.Store s ≡ 0) }
         ensures clean { IfOk result (λ s. is_clean S.Store s → HasCleanDisk (state S.Store conn)) }
         ensures served { IfOk result (λ s. is_clean S.Store s → IsTrue (state S.Store conn).is_open) }
-        ensures not_ours { IfErr result (λ e. e.0 ≡ OpenFault.NotOurs → (conn.in_transaction ≡ true) ⊎ (HasCleanDisk (state S.Store e.1) → ¬ IsStore (state S.Store conn).now)) }
-        ensures not_first { IfErr result (λ e. e.0 ≡ OpenFault.NotOurs → (conn.in_transaction ≡ true) ⊎ (HasCleanDisk (state S.Store e.1) → ¬ IsFirstStore (state S.Store conn).now)) }
+        ensures not_ours { IfErr result
+            (λ e. e.0 ≡ OpenFault.NotOurs → (conn.in_transaction ≡ true) ⊎ (HasCleanDisk (state S.Store e.1) → ¬ IsStore (state S.Store conn).now)) }
+        ensures not_first { IfErr result
+            (λ e. e.0 ≡ OpenFault.NotOurs → (conn.in_transaction ≡ true) ⊎ (HasCleanDisk (state S.Store e.1) → ¬ IsFirstStore (state S.Store conn).now)) }
 
         // `NotOurs` comes only where tables of a store are there that are none: some alone, always; or all, at another version or with
         // rows of the first one that are not laid out. Where there is none of them it never comes.
@@ -106,13 +129,17 @@ impl<S: Alter + Drop> SqlStore<S> {
 
         // What is opened has none of the tables or all, and if they are those of this layout, one of the two versions.
         ensures all { IfOk result (λ _. has_any conn.schema ≡ true → has_all conn.schema ≡ true) }
-        ensures version { IfOk result (λ s. is_clean S.Store s → conn.schema ≡ schema → version_in ((state S.Store conn).now.trees meta_tree) ≢ FileVersion.Other) }
+        ensures version { IfOk result
+            (λ s. is_clean S.Store s → conn.schema ≡ schema → version_in ((state S.Store conn).now.trees meta_tree) ≢ FileVersion.Other) }
 
         // Where it is refused the rows are as they were, if tables of these names are those of this layout,
         // and a connection that was shut is not opened.
-        ensures refused { IfErr result (λ e. (has_all conn.schema ≡ true → conn.schema ≡ schema) → HasCleanDisk (state S.Store e.1) → IsTrue (state S.Store e.1).is_open
+        ensures refused { IfErr result (λ e. (has_all conn.schema ≡ true → conn.schema ≡ schema) → HasCleanDisk (state S.Store e.1)
+            → IsTrue (state S.Store e.1).is_open
             → (state S.Store e.1).now ≡ (state S.Store conn).now) }
-        ensures shut { IfErr result (λ e. HasCleanDisk (state S.Store e.1) → HasCleanDisk (state S.Store conn) × (IsTrue (state S.Store e.1).is_open → IsTrue (state S.Store conn).is_open)) }
+        ensures shut { IfErr result
+            (λ e. HasCleanDisk (state S.Store e.1) → HasCleanDisk (state S.Store conn)
+            × (IsTrue (state S.Store e.1).is_open → IsTrue (state S.Store conn).is_open)) }
     {
         if !conn.is_autocommit() {
             return Err((OpenFault::NotOurs, conn));
@@ -135,6 +162,7 @@ impl<S: Alter + Drop> SqlStore<S> {
             earlier: Vec::new(alloc),
             faults: 0,
             fetched: 0,
+            segment: SEGMENT_LENGTH,
         })
     }
 
@@ -142,7 +170,8 @@ impl<S: Alter + Drop> SqlStore<S> {
     /// hold the contents, laid out as a store's; the rows of its indexes are those of what it holds.
     pub fn close(self) -> Connection<S>
         ensures idle { result.in_transaction ≡ false }
-        ensures contents { is_honest S.Store self → IsTrue (state S.Store result).is_open → contents_in (state S.Store result).now.trees ≡ contents_of S.Store self }
+        ensures contents { is_honest S.Store self → IsTrue (state S.Store result).is_open
+            → contents_in (state S.Store result).now.trees ≡ contents_of S.Store self }
         ensures laid { is_honest S.Store self → IsTrue (state S.Store result).is_open → ∥ IsIndexedStore (state S.Store result).now ∥₁ }
         ensures clean { HasCleanDisk (state S.Store result) → is_clean S.Store self }
     {
@@ -155,6 +184,7 @@ impl<S: Alter + Drop> SqlStore<S> {
             earlier: _,
             faults: _,
             fetched: _,
+            segment: _,
         } = self;
         conn
     }
@@ -162,12 +192,14 @@ impl<S: Alter + Drop> SqlStore<S> {
     /// Closes the store, and opens again what its tables hold. The connection comes back where that is refused.
     pub fn reopen(self) -> Result<SqlStore<S>, (OpenFault, Connection<S>)>
         // It has the same contents, and has met no fault.
-        ensures same { is_honest S.Store self → IfOk result (λ s. is_clean S.Store s → is_honest S.Store s × (contents_of S.Store s ≡ contents_of S.Store self)) }
+        ensures same { is_honest S.Store self
+            → IfOk result (λ s. is_clean S.Store s → is_honest S.Store s × (contents_of S.Store s ≡ contents_of S.Store self)) }
         ensures no_faults { IfOk result (λ s. fault_count S.Store s ≡ 0) }
         ensures clean { IfOk result (λ s. is_clean S.Store s → is_clean S.Store self) }
 
         // Where it is refused the tables are those of a store nevertheless, with the same contents.
-        ensures ours { is_honest S.Store self → IfErr result (λ e. HasCleanDisk (state S.Store e.1) → IsTrue (state S.Store e.1).is_open → e.0 ≢ OpenFault.NotOurs) }
+        ensures ours { is_honest S.Store self
+            → IfErr result (λ e. HasCleanDisk (state S.Store e.1) → IsTrue (state S.Store e.1).is_open → e.0 ≢ OpenFault.NotOurs) }
         ensures refused { is_honest S.Store self → IfErr result (λ e. HasCleanDisk (state S.Store e.1) → IsTrue (state S.Store e.1).is_open
             → ∥ IsIndexedStore (state S.Store e.1).now ∥₁ × (contents_in (state S.Store e.1).now.trees ≡ contents_of S.Store self)) }
     {

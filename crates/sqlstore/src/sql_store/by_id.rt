@@ -13,20 +13,20 @@ use tables::documents;
 use transactions::integer_of;
 
 impl<S: Alter> SqlStore<S> {
-    ghost use Rattle.std.specs.Prelude.{◌≡◌, ◌<◌, ◌≤◌, ◌^◌, ◌-◌, IfOk, IfSome, Some, drop, false, is_some, length, min, true};
+    ghost use Rattle.std.specs.Prelude.{◌≡◌, ◌<◌, ◌≤◌, ◌^◌, ◌-◌, IfOk, IfSome, Some, drop, false, is_some, length, min, pos, true};
     ghost use Rattle.std.specs.List.{count_by};
     ghost use Rattle.store.specs.Pages.{id_page, if_counted, is_before_start, row_counts, rows_within, up_to_limit};
     ghost use Rattle.store.specs.PageStructs.{IsCounted, id_page_of};
     ghost use Rattle.tables.specs.Listings.{live_range, live_rows};
     ghost use Rattle.tables.specs.Schema.{docs_tree};
-    ghost use Rattle.sqlstore.specs.ById.{IsHighIdBound, IsLiveRangeOf, IsLowIdBound};
-    ghost use Rattle.sqlstore.specs.Listing.{listed_by_id};
+    ghost use Rattle.sqlstore.specs.inner.ById.{IsHighIdBound, IsLiveRangeOf, IsLowIdBound};
+    ghost use Rattle.sqlstore.specs.inner.Listing.{listed_by_id};
     ghost use Rattle.sqlstore.specs.Model.{Answers, Finds, Stands, trees_of};
 
     // ---- the rows between two bounds
 
     /// Returns the rows of the documents between two bounds whose winner is not deleted, by their ids.
-    fn live_rows_up(
+    pub(crate) fn live_rows_up(
         &mut self,
         db: &i64,
         low: &[u8],
@@ -34,7 +34,8 @@ impl<S: Alter> SqlStore<S> {
         most: &i64,
         skip: &i64,
     ) -> Result<Vec<Row>, StoreFault>
-        ensures { Finds S.Store (λ trees rows. rows.items ≡ live_range false db.now low.now high.now most.now skip.now (trees docs_tree)) self.old self.new result }
+        ensures { Finds S.Store
+            (λ trees rows. rows.items ≡ live_range false db.now low.now high.now most.now skip.now (trees docs_tree)) self.old self.new result }
     {
         let rows = documents::live_rows_up(&mut self.conn, db, low, high, most, skip);
         judge_answer(&mut self.faults, &mut self.fetched, rows)
@@ -49,10 +50,50 @@ impl<S: Alter> SqlStore<S> {
         most: &i64,
         skip: &i64,
     ) -> Result<Vec<Row>, StoreFault>
-        ensures { Finds S.Store (λ trees rows. rows.items ≡ live_range true db.now low.now high.now most.now skip.now (trees docs_tree)) self.old self.new result }
+        ensures { Finds S.Store
+            (λ trees rows. rows.items ≡ live_range true db.now low.now high.now most.now skip.now (trees docs_tree)) self.old self.new result }
     {
         let rows = documents::live_rows_down(&mut self.conn, db, low, high, most, skip);
         judge_answer(&mut self.faults, &mut self.fetched, rows)
+    }
+
+    /// Returns the rows between two bounds behind as many as are skipped, up to a limit. Where it skips
+    /// many, it begins at a later bound.
+    fn skip_rows_up(
+        &mut self,
+        db: &i64,
+        low: &[u8],
+        high: &[u8],
+        most: &i64,
+        skip: u64,
+    ) -> Result<Vec<Row>, StoreFault>
+        requires { skip < 2 ^ 63 }
+        ensures { Finds S.Store
+            (λ trees rows. rows.items ≡ live_range false db.now low.now high.now most.now (pos skip) (trees docs_tree)) self.old self.new result }
+    {
+        match self.find_start(db, low, skip) {
+            Some(at) => self.live_rows_up(db, &at.bound, high, most, &integer_of(at.skip)),
+            None => self.live_rows_up(db, low, high, most, &integer_of(skip)),
+        }
+    }
+
+    /// Returns the same rows from the last to the first.
+    fn skip_rows_down(
+        &mut self,
+        db: &i64,
+        low: &[u8],
+        high: &[u8],
+        most: &i64,
+        skip: u64,
+    ) -> Result<Vec<Row>, StoreFault>
+        requires { skip < 2 ^ 63 }
+        ensures { Finds S.Store
+            (λ trees rows. rows.items ≡ live_range true db.now low.now high.now most.now (pos skip) (trees docs_tree)) self.old self.new result }
+    {
+        match self.find_end(db, high, skip) {
+            Some(at) => self.live_rows_down(db, low, &at.bound, most, &integer_of(at.skip)),
+            None => self.live_rows_down(db, low, high, most, &integer_of(skip)),
+        }
     }
 
     /// Returns the rows between two bounds that a page by id asks for: in its direction, behind as many as it
@@ -68,11 +109,10 @@ impl<S: Alter> SqlStore<S> {
         ensures { Finds S.Store (λ trees rows. IsLiveRangeOf range.now db.now low.now high.now (trees docs_tree) rows.items) self.old self.new result }
     {
         let most = limit_of(range.limit);
-        let skip = integer_of(range.skip);
         if range.descending {
-            self.live_rows_down(db, low, high, &most, &skip)
+            self.skip_rows_down(db, low, high, &most, range.skip)
         } else {
-            self.live_rows_up(db, low, high, &most, &skip)
+            self.skip_rows_up(db, low, high, &most, range.skip)
         }
     }
 
@@ -89,7 +129,8 @@ impl<S: Alter> SqlStore<S> {
         requires low { IsLowIdBound range.now low.now }
         requires high { IsHighIdBound range.now high.now }
         ensures answer { Answers S.Store self.old self.new (λ rows. rows.items)
-            (Some (up_to_limit range.now.limit (drop range.now.skip (rows_within range.now (live_rows (listed_by_id (trees_of S.Store self.old) db.now)))))) result }
+            (Some (up_to_limit range.now.limit
+            (drop range.now.skip (rows_within range.now (live_rows (listed_by_id (trees_of S.Store self.old) db.now)))))) result }
         ensures stands { Stands S.Store self.old self.new }
     {
         if let Some(0) = range.limit {
@@ -124,10 +165,10 @@ impl<S: Alter> SqlStore<S> {
         }
         if range.descending {
             let end = above_all_ids(self.alloc)?;
-            return self.count_marked(db, false, high, &end);
+            return self.count_live(db, high, &end);
         }
         let start = Vec::new(self.alloc);
-        self.count_marked(db, false, &start, low)
+        self.count_live(db, &start, low)
     }
 
     /// Counts the rows that a page by id leaves out at the start of its range: as many as it skips, or all
@@ -149,7 +190,7 @@ impl<S: Alter> SqlStore<S> {
         if range.skip == 0 {
             return Ok(0);
         }
-        let within = self.count_marked(db, false, low, high)?;
+        let within = self.count_live(db, low, high)?;
         Ok(min(range.skip, within))
     }
 

@@ -2,7 +2,9 @@
 
 ghost use Rattle.std.specs.Prelude.{◌≡◌, ◌+◌, ◌≤◌, ◌<◌, ◌^◌};
 
+use crate::entry_count::EntryCount;
 use crate::fault::{judge_answer, judge_index};
+use crate::known_database::{find_entry_count, keep_entry_count};
 use crate::sql_store::SqlStore;
 use crate::sql_store::page_rows::limit_of;
 use index::{
@@ -27,8 +29,16 @@ pub(crate) fn counts_of(before: u64, skipped: u64, total: u64) -> RowCounts
     RowCounts { offset, total }
 }
 
+/// Copies the number of a declaration.
+fn copy_number(declaration: &i64) -> i64
+    ensures { result ≡ declaration.now }
+{
+    *declaration
+}
+
 impl<S: Alter> SqlStore<S> {
-    ghost use Rattle.std.specs.Prelude.{◌≡◌, ◌∷◌, ◌<◌, ◌≤◌, ◌^◌, ◌-◌, [], IfErr, IfOk, IfSome, List, Some, drop, false, find, is_some, length, map, min, option_map, true};
+    ghost use Rattle.std.specs.Prelude.{◌≡◌, ◌∷◌, ◌<◌, ◌≤◌, ◌^◌, ◌-◌, [], IfErr, IfOk, IfSome, List, Some, drop};
+    ghost use Rattle.std.specs.Prelude.{false, find, is_some, length, map, min, option_map, true};
     ghost use Rattle.couch_json.specs.Lawful.{IsLawful};
     ghost use Rattle.index.specs.Places.{IsHighBound, IsLowBound, IsShownEntry, spot_of, spot_shown};
     ghost use Rattle.index.specs.Rows.{count_of, is_declaration_of, range_of};
@@ -42,8 +52,9 @@ impl<S: Alter> SqlStore<S> {
     ghost use Rattle.store.specs.declared.listing.RowCounts.{RowCounts};
     ghost use Rattle.tables.specs.Schema.{decls_tree, entries_tree};
     ghost use Rattle.sqlstore.specs.Model.{Answers, Finds, Stands, trees_of};
-    ghost use Rattle.sqlstore.specs.ByKey.{AnswersOf, IsRangeOf};
-    ghost use Rattle.sqlstore.specs.Commits.{IsUncommitted};
+    ghost use Rattle.sqlstore.specs.inner.ByKey.{AnswersOf, IsRangeOf};
+    ghost use Rattle.sqlstore.specs.inner.Reading.{entry_count};
+    ghost use Rattle.sqlstore.specs.inner.Commits.{IsUncommitted};
 
     // ---- what is stored of an index
 
@@ -55,7 +66,8 @@ impl<S: Alter> SqlStore<S> {
         design: &DocId,
         name: &str,
     ) -> Result<Option<Declaration>, StoreFault>
-        ensures answer { Answers S.Store self.old self.new (option_map declared) (Some (option_map declared_at (find (is_declaration_of number.now design.now name.now) (trees_of S.Store self.old decls_tree)))) result }
+        ensures answer { Answers S.Store self.old self.new (option_map declared)
+            (Some (option_map declared_at (find (is_declaration_of number.now design.now name.now) (trees_of S.Store self.old decls_tree)))) result }
         ensures stands { Stands S.Store self.old self.new }
     {
         let Some(declaration) = self.load_declaration(number, design, name)? else {
@@ -72,7 +84,8 @@ impl<S: Alter> SqlStore<S> {
         design: &DocId,
         name: &str,
     ) -> Result<Option<Declaration>, StoreFault>
-        ensures answer { Answers S.Store self.old self.new (option_map declared) (Some (option_map declared_at (find (is_declaration_of number.now design.now name.now) (trees_of S.Store self.old decls_tree)))) result }
+        ensures answer { Answers S.Store self.old self.new (option_map declared)
+            (Some (option_map declared_at (find (is_declaration_of number.now design.now name.now) (trees_of S.Store self.old decls_tree)))) result }
         ensures stands { Stands S.Store self.old self.new }
     {
         let design = design.as_str().as_bytes();
@@ -89,7 +102,8 @@ impl<S: Alter> SqlStore<S> {
         most: &i64,
         skip: &i64,
     ) -> Result<Vec<Row>, StoreFault>
-        ensures { Finds S.Store (λ trees rows. rows.items ≡ range_of false declaration.now low.now high.now most.now skip.now (trees entries_tree)) self.old self.new result }
+        ensures { Finds S.Store
+            (λ trees rows. rows.items ≡ range_of false declaration.now low.now high.now most.now skip.now (trees entries_tree)) self.old self.new result }
     {
         let rows = entries::rows_up(&mut self.conn, declaration, low, high, most, skip);
         judge_answer(&mut self.faults, &mut self.fetched, rows)
@@ -104,7 +118,8 @@ impl<S: Alter> SqlStore<S> {
         most: &i64,
         skip: &i64,
     ) -> Result<Vec<Row>, StoreFault>
-        ensures { Finds S.Store (λ trees rows. rows.items ≡ range_of true declaration.now low.now high.now most.now skip.now (trees entries_tree)) self.old self.new result }
+        ensures { Finds S.Store
+            (λ trees rows. rows.items ≡ range_of true declaration.now low.now high.now most.now skip.now (trees entries_tree)) self.old self.new result }
     {
         let rows = entries::rows_down(&mut self.conn, declaration, low, high, most, skip);
         judge_answer(&mut self.faults, &mut self.fetched, rows)
@@ -138,7 +153,8 @@ impl<S: Alter> SqlStore<S> {
         low: &[u8],
         high: &[u8],
     ) -> Result<Vec<Row>, StoreFault>
-        ensures { Finds S.Store (λ trees rows. rows.items ≡ shown_count (count_of declaration.now low.now high.now (trees entries_tree)) ∷ []) self.old self.new result }
+        ensures { Finds S.Store
+            (λ trees rows. rows.items ≡ shown_count (count_of declaration.now low.now high.now (trees entries_tree)) ∷ []) self.old self.new result }
     {
         let rows = entries::count_rows(&mut self.conn, declaration, low, high);
         judge_answer(&mut self.faults, &mut self.fetched, rows)
@@ -151,7 +167,8 @@ impl<S: Alter> SqlStore<S> {
         low: &[u8],
         high: &[u8],
     ) -> Result<u64, StoreFault>
-        ensures answer { Answers S.Store self.old self.new (λ n. n) (Some (count_of declaration.now low.now high.now (trees_of S.Store self.old entries_tree))) result }
+        ensures answer { Answers S.Store self.old self.new (λ n. n)
+            (Some (count_of declaration.now low.now high.now (trees_of S.Store self.old entries_tree))) result }
         ensures bounded { IfOk result (λ n. n < 2 ^ 63 - 1) }
         ensures stands { Stands S.Store self.old self.new }
     {
@@ -181,7 +198,8 @@ impl<S: Alter> SqlStore<S> {
         range: &KeyRange,
     ) -> Result<Vec<KeyRow>, StoreFault>
         ensures answer { (places : List IndexPlace) → IsLowBound range.now low.now → IsHighBound range.now high.now
-            → AnswersOf S.Store declaration.now places self.old self.new (λ rows. rows.items) (up_to_limit range.now.limit (drop range.now.skip (key_rows_within range.now places))) result }
+            → AnswersOf S.Store declaration.now places self.old self.new (λ rows. rows.items)
+            (up_to_limit range.now.limit (drop range.now.skip (key_rows_within range.now places))) result }
         ensures stands { Stands S.Store self.old self.new }
     {
         if range.skip >= 1 << 63 {
@@ -236,6 +254,26 @@ impl<S: Alter> SqlStore<S> {
         Ok(min(range.skip, within))
     }
 
+    /// Finds how many entries an index has: that is known already, or else they are counted, and their number is
+    /// kept.
+    fn count_entries(&mut self, declaration: &i64) -> Result<u64, StoreFault>
+        ensures answer { Answers S.Store self.old self.new (λ n. n) (Some (entry_count (trees_of S.Store self.old) declaration.now)) result }
+        ensures bounded { IfOk result (λ n. n < 2 ^ 63 - 1) }
+        ensures stands { Stands S.Store self.old self.new }
+    {
+        if let Some(count) = find_entry_count(&self.known, declaration) {
+            return Ok(count.value);
+        }
+        let start = Vec::new(self.alloc);
+        let end = above_all(self.alloc)?;
+        let value = self.count_between(declaration, &start, &end)?;
+        let known = self.known.take();
+        let declaration = copy_number(declaration);
+        let count = EntryCount { declaration, value };
+        self.known = keep_entry_count(self.alloc, known, count);
+        Ok(value)
+    }
+
     /// Counts the rows outside of a page by key, where that is asked for.
     fn count_key_rows(
         &mut self,
@@ -245,7 +283,8 @@ impl<S: Alter> SqlStore<S> {
         range: &KeyRange,
     ) -> Result<Option<RowCounts>, StoreFault>
         ensures answer { (places : List IndexPlace) → IsLowBound range.now low.now → IsHighBound range.now high.now
-            → AnswersOf S.Store declaration.now places self.old self.new (λ counts. counts) (if_counted range.now.counted (key_counts range.now places)) result }
+            → AnswersOf S.Store declaration.now places self.old self.new (λ counts. counts)
+            (if_counted range.now.counted (key_counts range.now places)) result }
         ensures counted { IfOk result (λ counts. is_some counts ≡ range.now.counted) }
         ensures bounded { IfOk result (λ counts. IfSome counts (λ c. (c.offset ≤ c.total) × (c.total < 2 ^ 63))) }
         ensures stands { Stands S.Store self.old self.new }
@@ -253,9 +292,7 @@ impl<S: Alter> SqlStore<S> {
         if !range.counted {
             return Ok(None);
         }
-        let end = above_all(self.alloc)?;
-        let start = Vec::new(self.alloc);
-        let total = self.count_between(declaration, &start, &end)?;
+        let total = self.count_entries(declaration)?;
         let skipped = self.count_skipped_keys(declaration, low, high, range)?;
         let before = self.count_before(declaration, low, high, range)?;
         Ok(Some(counts_of(before, skipped, total)))
@@ -267,7 +304,8 @@ impl<S: Alter> SqlStore<S> {
         declaration: &i64,
         range: &KeyRange,
     ) -> Result<PageByKey, StoreFault>
-        ensures answer { (places : List IndexPlace) → AnswersOf S.Store declaration.now places self.old self.new key_page_of (key_page range.now places) result }
+        ensures answer { (places : List IndexPlace)
+            → AnswersOf S.Store declaration.now places self.old self.new key_page_of (key_page range.now places) result }
         ensures counted { IfOk result (HasKeyCounts range.now) }
         ensures stands { Stands S.Store self.old self.new }
     {

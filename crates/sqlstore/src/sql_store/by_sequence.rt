@@ -13,7 +13,7 @@ impl<S: Alter> SqlStore<S> {
     ghost use Rattle.tables.specs.Rows.{history_in};
     ghost use Rattle.tables.specs.Schema.{revs_tree};
     ghost use Rattle.tree.specs.History.{leaves};
-    ghost use Rattle.sqlstore.specs.Listing.{listed_by_sequence, page_with_leaves, winners_page, with_leaves};
+    ghost use Rattle.sqlstore.specs.inner.Listing.{listed_by_sequence, page_with_leaves, winners_page, with_leaves};
     ghost use Rattle.sqlstore.specs.Model.{Answers, Stands, trees_of};
 
     /// Finds the documents at their sequences, each with its winner alone, cut by a range.
@@ -38,7 +38,8 @@ impl<S: Alter> SqlStore<S> {
     /// table of revisions is read.
     #[tactic(auto, using(tree::proofs::Outlines::leaves_in))]
     fn find_leaves(&mut self, number: &i64, id: &DocId) -> Result<Vec<Rev>, StoreFault>
-        ensures answer { Answers S.Store self.old self.new (λ revs. revs.items) (Some (leaves (history_in (trees_of S.Store self.old revs_tree) number.now id.now))) result }
+        ensures answer { Answers S.Store self.old self.new (λ revs. revs.items)
+            (Some (leaves (history_in (trees_of S.Store self.old revs_tree) number.now id.now))) result }
         ensures stands { Stands S.Store self.old self.new }
     {
         let rows = self.hash_rows(number, id.as_str().as_bytes())?;
@@ -53,7 +54,8 @@ impl<S: Alter> SqlStore<S> {
 
     /// Makes the row of a document with all its leaves.
     fn show_leaves(&mut self, number: &i64, row: &SeqRow) -> Result<SeqRow, StoreFault>
-        ensures answer { Answers S.Store self.old self.new sequence_row_of (Some (with_leaves (history_in (trees_of S.Store self.old revs_tree) number.now) (sequence_row_of row.now))) result }
+        ensures answer { Answers S.Store self.old self.new sequence_row_of
+            (Some (with_leaves (history_in (trees_of S.Store self.old revs_tree) number.now) (sequence_row_of row.now))) result }
         ensures sequence { IfOk result (λ r. r.sequence ≡ row.now.sequence) }
         ensures stands { Stands S.Store self.old self.new }
     {
@@ -68,7 +70,8 @@ impl<S: Alter> SqlStore<S> {
 
     /// Makes the rows of documents, each with all its leaves.
     fn show_all_leaves(&mut self, number: &i64, rows: &[SeqRow]) -> Result<Vec<SeqRow>, StoreFault>
-        ensures answer { Answers S.Store self.old self.new (λ shown. sequence_rows shown.items) (Some (map (with_leaves (history_in (trees_of S.Store self.old revs_tree) number.now)) (sequence_rows rows.now))) result }
+        ensures answer { Answers S.Store self.old self.new (λ shown. sequence_rows shown.items)
+            (Some (map (with_leaves (history_in (trees_of S.Store self.old revs_tree) number.now)) (sequence_rows rows.now))) result }
         ensures sequences { IfOk result (λ shown. map (λ r. r.sequence) shown.items ≡ map (λ r. r.sequence) rows.now) }
         ensures stands { Stands S.Store self.old self.new }
     {
@@ -87,7 +90,8 @@ impl<S: Alter> SqlStore<S> {
         range: &SeqRange,
     ) -> Result<PageBySeq, StoreFault>
         requires { IsBounded range.now page }
-        ensures answer { Answers S.Store self.old self.new sequence_page_of (Some (page_with_leaves (history_in (trees_of S.Store self.old revs_tree) number.now) (sequence_page_of page))) result }
+        ensures answer { Answers S.Store self.old self.new sequence_page_of
+            (Some (page_with_leaves (history_in (trees_of S.Store self.old revs_tree) number.now) (sequence_page_of page))) result }
         ensures bounded { IfOk result (IsBounded range.now) }
         ensures stands { Stands S.Store self.old self.new }
     {

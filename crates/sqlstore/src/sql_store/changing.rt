@@ -16,9 +16,9 @@ impl<S: Alter> SqlStore<S> {
     ghost use Rattle.std.specs.FinMap as map;
     ghost use Rattle.store.specs.Contents.{new_database, with_local, with_security};
     ghost use Rattle.store.specs.Lawful.{IsBody};
-    ghost use Rattle.sqlstore.specs.Causes.{IsJudged};
-    ghost use Rattle.sqlstore.specs.Commits.{IsUncommitted};
-    ghost use Rattle.sqlstore.specs.Reading.{HasNumber};
+    ghost use Rattle.sqlstore.specs.inner.Causes.{IsJudged};
+    ghost use Rattle.sqlstore.specs.inner.Commits.{IsUncommitted};
+    ghost use Rattle.sqlstore.specs.inner.Reading.{HasNumber};
     ghost use Rattle.sqlstore.specs.Model.{Answers, Moves, Stands, contents_of, is_honest, trees_of};
 
     /// Tells whether there is a database of this name.
@@ -64,7 +64,9 @@ impl<S: Alter> SqlStore<S> {
         security: &Security,
     ) -> Result<(), StoreFault>
         requires { is_honest S.Store self.old → HasNumber (trees_of S.Store self.old) name.now number.now }
-        ensures ok { is_honest S.Store self.new → OnOk result (option_map (λ db. map.insert (contents_of S.Store self.old) name.now (with_security db security.now)) (map.get (contents_of S.Store self.old) name.now) ≡ Some (contents_of S.Store self.new)) }
+        ensures ok { is_honest S.Store self.new
+            → OnOk result (option_map (λ db. map.insert (contents_of S.Store self.old) name.now (with_security db security.now))
+            (map.get (contents_of S.Store self.old) name.now) ≡ Some (contents_of S.Store self.new)) }
         ensures judged { IfErr result (IsJudged self.old.faults self.new.faults) }
         ensures kept { OnErr result (self.new.last.value ≡ self.old.last.value) }
         ensures moves { Moves S.Store self.old self.new }
@@ -110,7 +112,9 @@ impl<S: Alter> SqlStore<S> {
     ) -> Result<(), StoreFault>
         requires there { is_honest S.Store self.old → HasNumber (trees_of S.Store self.old) name.now number.now }
         requires body { is_honest S.Store self.old → IsBody document.now.body }
-        ensures ok { is_honest S.Store self.new → OnOk result (option_map (λ db. map.insert (contents_of S.Store self.old) name.now (with_local db id.now document.now)) (map.get (contents_of S.Store self.old) name.now) ≡ Some (contents_of S.Store self.new)) }
+        ensures ok { is_honest S.Store self.new
+            → OnOk result (option_map (λ db. map.insert (contents_of S.Store self.old) name.now (with_local db id.now document.now))
+            (map.get (contents_of S.Store self.old) name.now) ≡ Some (contents_of S.Store self.new)) }
         ensures judged { IfErr result (IsJudged self.old.faults self.new.faults) }
         ensures kept { OnErr result (self.new.last.value ≡ self.old.last.value) }
         ensures moves { Moves S.Store self.old self.new }

@@ -2,7 +2,7 @@
 
 ghost use Rattle.std.specs.Prelude.{◌≡◌, ◌+◌, ◌<◌, ◌^◌, ◌↔◌, IfSome, IsTrue, Some};
 ghost use Rattle.sqlstore.specs.declared.known_database.KnownDatabase.{KnownDatabase};
-ghost use Rattle.sqlstore.specs.Reading.{at_sequence};
+ghost use Rattle.sqlstore.specs.inner.Reading.{at_sequence};
 
 use crate::earlier::forget_named;
 use crate::fault::judge_write;
@@ -48,8 +48,8 @@ impl<S: Alter> SqlStore<S> {
     ghost use Rattle.store.specs.Database.{with_all};
     ghost use Rattle.store.specs.Writing.{additions, writings_in};
     ghost use Rattle.transactions.specs.Commits.{AreDue};
-    ghost use Rattle.sqlstore.specs.Commits.{IsUncommitted};
-    ghost use Rattle.sqlstore.specs.Marks.{KeepsElsewhere, documents_at, ids_of};
+    ghost use Rattle.sqlstore.specs.inner.Commits.{IsUncommitted};
+    ghost use Rattle.sqlstore.specs.inner.Marks.{KeepsElsewhere, documents_at, ids_of};
     ghost use Rattle.sqlstore.specs.Model.{Moves, contents_of, is_honest, trees_of};
 
     /// Appends writes to the database of this number and this sequence, and moves the counts of its
@@ -63,7 +63,8 @@ impl<S: Alter> SqlStore<S> {
     ) -> Result<(), StoreFault>
         requires room { sequence + length writes.now < 2 ^ 63 }
         requires due { is_honest S.Store self.old → AreDue (additions writes.now) name.now number.now sequence (trees_of S.Store self.old) }
-        ensures ok { is_honest S.Store self.new → OnOk result (option_map (λ db. map.insert (contents_of S.Store self.old) name.now (with_all db (writings_in db (additions writes.now))))
+        ensures ok { is_honest S.Store self.new
+            → OnOk result (option_map (λ db. map.insert (contents_of S.Store self.old) name.now (with_all db (writings_in db (additions writes.now))))
             (map.get (contents_of S.Store self.old) name.now) ≡ Some (contents_of S.Store self.new)) }
         ensures told { IfErr result (IsUncommitted self.old.faults self.new.faults (is_honest S.Store self.new)) }
         ensures kept { OnErr result (self.new.last.value ≡ self.old.last.value) }
@@ -87,9 +88,12 @@ impl<S: Alter> SqlStore<S> {
     ) -> Result<(), StoreFault>
         requires room { sequence + length writes.now < 2 ^ 63 }
         requires due { is_honest S.Store self.old → AreDue (additions writes.now) name.now number.now sequence (trees_of S.Store self.old) }
-        ensures ok { is_honest S.Store self.new → OnOk result (option_map (λ db. map.insert (contents_of S.Store self.old) name.now (with_all db (writings_in db (additions writes.now))))
+        ensures ok { is_honest S.Store self.new
+            → OnOk result (option_map (λ db. map.insert (contents_of S.Store self.old) name.now (with_all db (writings_in db (additions writes.now))))
             (map.get (contents_of S.Store self.old) name.now) ≡ Some (contents_of S.Store self.new)) }
-        ensures elsewhere { is_honest S.Store self.new → OnOk result (∥ KeepsElsewhere (ids_of writes.now) (documents_at (trees_of S.Store self.old) number.now) (documents_at (trees_of S.Store self.new) number.now) ∥₁) }
+        ensures elsewhere { is_honest S.Store self.new
+            → OnOk result (∥ KeepsElsewhere (ids_of writes.now) (documents_at (trees_of S.Store self.old) number.now)
+            (documents_at (trees_of S.Store self.new) number.now) ∥₁) }
         ensures told { IfErr result (IsUncommitted self.old.faults self.new.faults (is_honest S.Store self.new)) }
         ensures kept { OnErr result (self.new.last.value ≡ self.old.last.value) }
         ensures moves { Moves S.Store self.old self.new }

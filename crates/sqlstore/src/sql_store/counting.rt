@@ -15,7 +15,7 @@ impl<S: Alter> SqlStore<S> {
     ghost use Rattle.store.specs.Pages.{if_counted};
     ghost use Rattle.tables.specs.Listings.{listed_counts, marked_count, shown_count};
     ghost use Rattle.tables.specs.Schema.{docs_tree};
-    ghost use Rattle.sqlstore.specs.Listing.{all_count, listed_by_sequence};
+    ghost use Rattle.sqlstore.specs.inner.Listing.{all_count, listed_by_sequence};
     ghost use Rattle.sqlstore.specs.Model.{Answers, Finds, Stands, trees_of};
 
     /// Returns one row, which tells how many documents have a winner that is marked so, and an id between
@@ -27,7 +27,8 @@ impl<S: Alter> SqlStore<S> {
         low: &[u8],
         high: &[u8],
     ) -> Result<Vec<Row>, StoreFault>
-        ensures { Finds S.Store (λ trees rows. rows.items ≡ shown_count (marked_count db.now deleted low.now high.now (trees docs_tree)) ∷ []) self.old self.new result }
+        ensures { Finds S.Store
+            (λ trees rows. rows.items ≡ shown_count (marked_count db.now deleted low.now high.now (trees docs_tree)) ∷ []) self.old self.new result }
     {
         let rows = documents::count_documents(&mut self.conn, db, deleted, low, high);
         judge_answer(&mut self.faults, &mut self.fetched, rows)
@@ -41,7 +42,8 @@ impl<S: Alter> SqlStore<S> {
         low: &[u8],
         high: &[u8],
     ) -> Result<u64, StoreFault>
-        ensures answer { Answers S.Store self.old self.new (λ n. n) (Some (marked_count db.now deleted low.now high.now (trees_of S.Store self.old docs_tree))) result }
+        ensures answer { Answers S.Store self.old self.new (λ n. n)
+            (Some (marked_count db.now deleted low.now high.now (trees_of S.Store self.old docs_tree))) result }
         ensures bounded { IfOk result (λ n. n < 2 ^ 63 - 1) }
         ensures stands { Stands S.Store self.old self.new }
     {

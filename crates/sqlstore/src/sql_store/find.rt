@@ -12,7 +12,7 @@ impl<S: Alter> SqlStore<S> {
     ghost use Rattle.tables.specs.Rows.{is_named};
     ghost use Rattle.tables.specs.Schema.{dbs_tree};
     ghost use Rattle.sqlstore.specs.Model.{Answers, Stands, is_honest, trees_of};
-    ghost use Rattle.sqlstore.specs.Reading.{found_in, known_values, numbers_in};
+    ghost use Rattle.sqlstore.specs.inner.Reading.{found_in, known_values, numbers_in};
     ghost use Rattle.sqlstore.specs.Standing.{IsKnown};
 
     /// Takes out what is known of the database of this name.
@@ -58,7 +58,9 @@ impl<S: Alter> SqlStore<S> {
             found,
             live: None,
             deleted: None,
+            ranks: None,
             indexes: None,
+            entries: None,
         })
     }
 

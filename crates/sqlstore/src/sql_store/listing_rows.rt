@@ -9,7 +9,7 @@ use tables::documents;
 impl<S: Alter> SqlStore<S> {
     ghost use Rattle.std.specs.Prelude.{◌≡◌, filter};
     ghost use Rattle.tables.specs.Listings.{comes_after, first_rows};
-    ghost use Rattle.sqlstore.specs.Listing.{listed_by_sequence};
+    ghost use Rattle.sqlstore.specs.inner.Listing.{listed_by_sequence};
     ghost use Rattle.sqlstore.specs.Model.{Finds};
 
     /// Returns the rows of all documents of a database, by their sequences.
@@ -28,7 +28,8 @@ impl<S: Alter> SqlStore<S> {
         sequence: &i64,
         limit: &i64,
     ) -> Result<Vec<Row>, StoreFault>
-        ensures { Finds S.Store (λ trees rows. rows.items ≡ first_rows limit.now (filter (comes_after sequence.now) (listed_by_sequence trees db.now))) self.old self.new result }
+        ensures { Finds S.Store
+            (λ trees rows. rows.items ≡ first_rows limit.now (filter (comes_after sequence.now) (listed_by_sequence trees db.now))) self.old self.new result }
     {
         let rows = documents::rows_after(&mut self.conn, db, sequence, limit);
         judge_answer(&mut self.faults, &mut self.fetched, rows)

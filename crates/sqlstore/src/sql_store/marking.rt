@@ -1,29 +1,48 @@
 //! How the winners of the documents of writes are marked, before they are written and after, and what that
-//! makes of the counts of their database.
+//! makes of the counts and the ranks of their database.
 
-ghost use Rattle.std.specs.Prelude.{◌≡◌, ℕ, IfOk, List, Some, if◌then◌else◌, option_map};
+ghost use Rattle.std.specs.Prelude.{◌≡◌, ℕ, ℤ, IfOk, IfSome, List, Some, if◌then◌else◌, option_map};
 ghost use Rattle.std.specs.BTreeMap as tree;
 ghost use Rattle.std.specs.Cmp.Lexicographic.{slice_cmp};
 ghost use Rattle.std.specs.Ordering.{is_eq, nat_cmp};
+ghost use Rattle.sqlite_trees.specs.Tree.{Trees};
+ghost use Rattle.sqlstore.specs.inner.Marks.{AreCountsAt};
 
 use crate::known_counts::KnownCounts;
-use crate::known_database::{find_counts, keep_counts};
+use crate::known_database::{find_counts, keep_counts, keep_ranks, take_ranks};
 use crate::marked::Marked;
+use crate::moved_ranks::move_ranks;
 use crate::sql_store::SqlStore;
 use couch_json::Got;
+use ranks::Ranks;
 use sqlite::Alter;
 use std::alloc::Global;
 use std::collections::BTreeMap;
 use store::{StoreFault, Write};
 use tree::{DocId, MarkedRev};
 
-/// The counts of a database, and the marks of the documents that are to be written in it.
+/// The counts of a database, its ranks, and the marks of the documents that are to be written in it.
 #[derive(Drop)]
 pub(crate) struct CountedMarks {
     /// Its counts.
     counts: KnownCounts,
+    /// The ranks of the ids of its documents that are not deleted, where they are known.
+    ranks: Option<Ranks>,
     /// Whether the winner of each document is deleted, if it was ever written.
     marks: BTreeMap<DocId, Option<bool>>,
+}
+
+/// Returns the counts that are known, or that none is.
+fn counts_or_none(counts: Option<KnownCounts>) -> KnownCounts
+    ensures { (trees : Trees) (number : ℤ) → IfSome counts (λ c. AreCountsAt c number trees) → AreCountsAt result number trees }
+{
+    match counts {
+        Some(counts) => counts,
+        None => KnownCounts {
+            live: None,
+            deleted: None,
+        },
+    }
 }
 
 /// Returns the mark of a winner.
@@ -44,21 +63,25 @@ fn put_mark(
     mark: Option<bool>,
 ) -> Got<Option<Option<bool>>>
     ensures was { IfOk result (λ was. was ≡ tree.get (slice_cmp nat_cmp) marks.old id.now) }
-    ensures put { IfOk result (λ _. (q : List ℕ) → tree.get (slice_cmp nat_cmp) marks.new q ≡ (if is_eq (slice_cmp nat_cmp id.now q) then Some mark else tree.get (slice_cmp nat_cmp) marks.old q)) }
+    ensures put { IfOk result
+        (λ _. (q : List ℕ) → tree.get
+        (slice_cmp nat_cmp) marks.new q ≡ (if is_eq (slice_cmp nat_cmp id.now q) then Some mark else tree.get (slice_cmp nat_cmp) marks.old q)) }
 {
     Ok(marks.insert(id.copy(alloc)?, mark)?)
 }
 
 impl<S: Alter> SqlStore<S> {
-    ghost use Rattle.std.specs.Prelude.{IfSome};
     ghost use Rattle.std.specs.FinMap as map;
+    ghost use Rattle.ranks.specs.Counts.{AreRanksOf};
     ghost use Rattle.store.specs.Database.{Document, TextMap};
-    ghost use Rattle.sqlstore.specs.Marks.{AreChanges, AreCounts, AreMarks, KeepsElsewhere, documents_at, ids_of, mark_of};
+    ghost use Rattle.sqlstore.specs.inner.Listing.{live_ids};
+    ghost use Rattle.sqlstore.specs.inner.Marks.{AreChanges, AreCounts, AreMarks, KeepsElsewhere, documents_at, ids_of, live_keys, mark_of};
     ghost use Rattle.sqlstore.specs.Model.{Stands, is_honest, trees_of};
 
     /// Finds whether the winner of a document is deleted, if it was ever written.
     fn find_mark(&mut self, number: &i64, id: &DocId) -> Result<Option<bool>, StoreFault>
-        ensures mark { is_honest S.Store self.new → IfOk result (λ mark. mark ≡ mark_of (map.get (documents_at (trees_of S.Store self.old) number.now) id.now)) }
+        ensures mark { is_honest S.Store self.new
+            → IfOk result (λ mark. mark ≡ mark_of (map.get (documents_at (trees_of S.Store self.old) number.now) id.now)) }
         ensures stands { Stands S.Store self.old self.new }
     {
         let winner = self.find_winner(number, id)?;
@@ -82,17 +105,39 @@ impl<S: Alter> SqlStore<S> {
         Ok(marks)
     }
 
-    /// Finds the counts of a database that are known, and the marks of the documents that these writes are
-    /// of; `None` where no count is known, or the marks are not found.
-    pub(crate) fn find_counted(&mut self, number: &i64, writes: &[Write]) -> Option<CountedMarks>
-        ensures counted { is_honest S.Store self.new → IfSome result (λ c. ∥ AreCounts c.counts (documents_at (trees_of S.Store self.old) number.now) × AreMarks c.marks (documents_at (trees_of S.Store self.old) number.now) ∥₁) }
+    /// Takes out the ranks of the database of this number, where they are known.
+    fn part_ranks(&mut self, number: &i64) -> Option<Ranks>
+        ensures ranks { is_honest S.Store self.new → ∥ IfSome result (λ r. AreRanksOf r (live_ids (trees_of S.Store self.old) number.now)) ∥₁ }
         ensures stands { Stands S.Store self.old self.new }
     {
-        let counts = find_counts(&self.known, number)?;
+        let known = self.known.take();
+        let (known, ranks) = take_ranks(known, number);
+        self.known = known;
+        ranks
+    }
+
+    /// Finds the counts of a database that are known, takes out its ranks, and finds the marks of the
+    /// documents that these writes are of; `None` where neither is known, or the marks are not found.
+    pub(crate) fn find_counted(&mut self, number: &i64, writes: &[Write]) -> Option<CountedMarks>
+        ensures counted { is_honest S.Store self.new
+            → IfSome result (λ c. ∥ AreCounts c.counts (documents_at (trees_of S.Store self.old) number.now)
+            × AreMarks c.marks (documents_at (trees_of S.Store self.old) number.now)
+            × IfSome c.ranks (λ r. AreRanksOf r (live_keys (documents_at (trees_of S.Store self.old) number.now))) ∥₁) }
+        ensures stands { Stands S.Store self.old self.new }
+    {
+        let ranks = self.part_ranks(number);
+        let counts = find_counts(&self.known, number);
+        if counts.is_none() && ranks.is_none() {
+            return None;
+        }
         let Ok(marks) = self.find_marks(number, writes) else {
             return None;
         };
-        Some(CountedMarks { counts, marks })
+        Some(CountedMarks {
+            counts: counts_or_none(counts),
+            ranks,
+            marks,
+        })
     }
 
     /// Finds how the mark of a document changed since its mark was put in, and puts in that of now. A
@@ -105,8 +150,11 @@ impl<S: Alter> SqlStore<S> {
     ) -> Result<Marked, StoreFault>
         ensures id { IfOk result (λ c. c.id ≡ id.now) }
         ensures was { IfOk result (λ c. tree.get (slice_cmp nat_cmp) marks.old id.now ≡ Some c.was) }
-        ensures is { is_honest S.Store self.new → IfOk result (λ c. mark_of (map.get (documents_at (trees_of S.Store self.old) number.now) id.now) ≡ Some c.is) }
-        ensures put { IfOk result (λ c. (q : List ℕ) → tree.get (slice_cmp nat_cmp) marks.new q ≡ (if is_eq (slice_cmp nat_cmp id.now q) then Some (Some c.is) else tree.get (slice_cmp nat_cmp) marks.old q)) }
+        ensures is { is_honest S.Store self.new
+            → IfOk result (λ c. mark_of (map.get (documents_at (trees_of S.Store self.old) number.now) id.now) ≡ Some c.is) }
+        ensures put { IfOk result
+            (λ c. (q : List ℕ) → tree.get
+            (slice_cmp nat_cmp) marks.new q ≡ (if is_eq (slice_cmp nat_cmp id.now q) then Some (Some c.is) else tree.get (slice_cmp nat_cmp) marks.old q)) }
         ensures stands { Stands S.Store self.old self.new }
     {
         let Some(is) = self.find_mark(number, id)? else {
@@ -126,7 +174,8 @@ impl<S: Alter> SqlStore<S> {
         marks: BTreeMap<DocId, Option<bool>>,
         writes: &[Write],
     ) -> Result<Vec<Marked>, StoreFault>
-        ensures changes { is_honest S.Store self.new → (old : TextMap Document) → AreMarks marks old → KeepsElsewhere (ids_of writes.now) old (documents_at (trees_of S.Store self.old) number.now)
+        ensures changes { is_honest S.Store self.new → (old : TextMap Document) → AreMarks marks old
+            → KeepsElsewhere (ids_of writes.now) old (documents_at (trees_of S.Store self.old) number.now)
             → IfOk result (λ cs. AreChanges cs.items old (documents_at (trees_of S.Store self.old) number.now)) }
         ensures stands { Stands S.Store self.old self.new }
     {
@@ -139,17 +188,23 @@ impl<S: Alter> SqlStore<S> {
         Ok(changes)
     }
 
-    /// Moves the counts of a database after these writes of it were committed, and keeps them. Where it
-    /// can't be found what the writes changed, no count is known any more.
+    /// Moves the counts and the ranks of a database after these writes of it were committed, and keeps them.
+    /// Where it can't be found what the writes changed, none of them is known any more.
     pub(crate) fn move_counts(&mut self, number: &i64, counted: CountedMarks, writes: &[Write])
         requires { is_honest S.Store self.old → ∥ ((old : TextMap Document) × AreCounts counted.counts old × AreMarks counted.marks old
+            × IfSome counted.ranks (λ r. AreRanksOf r (live_keys old))
             × KeepsElsewhere (ids_of writes.now) old (documents_at (trees_of S.Store self.old) number.now)) ∥₁ }
         ensures stands { Stands S.Store self.old self.new }
     {
-        let CountedMarks { counts, marks } = counted;
+        let CountedMarks {
+            counts,
+            ranks,
+            marks,
+        } = counted;
         if let Ok(changes) = self.find_changes(number, marks, writes) {
             let known = self.known.take();
-            self.known = keep_counts(known, number, counts.after(&changes));
+            let known = keep_counts(known, number, counts.after(&changes));
+            self.known = keep_ranks(known, number, move_ranks(ranks, &changes));
         }
     }
 }

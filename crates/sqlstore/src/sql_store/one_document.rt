@@ -25,7 +25,8 @@ impl<S: Alter> SqlStore<S> {
     /// Finds the history of a document, empty where it was never written. It has to have the winner that
     /// the document's row names.
     pub(crate) fn find_history(&mut self, number: &i64, id: &DocId) -> Result<History, StoreFault>
-        ensures answer { Answers S.Store self.old self.new (λ history. history) (Some (history_in (trees_of S.Store self.old revs_tree) number.now id.now)) result }
+        ensures answer { Answers S.Store self.old self.new (λ history. history)
+            (Some (history_in (trees_of S.Store self.old revs_tree) number.now id.now)) result }
         ensures stands { Stands S.Store self.old self.new }
     {
         let winner = self.find_winner(number, id)?;
@@ -36,7 +37,8 @@ impl<S: Alter> SqlStore<S> {
 
     /// Finds the same history without its bodies. It has to have that winner too.
     pub(crate) fn find_outline(&mut self, number: &i64, id: &DocId) -> Result<Outline, StoreFault>
-        ensures answer { Answers S.Store self.old self.new (λ outline. outline) (Some (outline_of (history_in (trees_of S.Store self.old revs_tree) number.now id.now))) result }
+        ensures answer { Answers S.Store self.old self.new (λ outline. outline)
+            (Some (outline_of (history_in (trees_of S.Store self.old revs_tree) number.now id.now))) result }
         ensures stands { Stands S.Store self.old self.new }
     {
         let winner = self.find_winner(number, id)?;
@@ -53,7 +55,8 @@ impl<S: Alter> SqlStore<S> {
         id: &DocId,
         rev: &Rev,
     ) -> Result<Option<Entry>, StoreFault>
-        ensures answer { Answers S.Store self.old self.new (λ found. found) (Some (map.get (history_in (trees_of S.Store self.old revs_tree) number.now id.now) rev.now)) result }
+        ensures answer { Answers S.Store self.old self.new (λ found. found)
+            (Some (map.get (history_in (trees_of S.Store self.old revs_tree) number.now id.now) rev.now)) result }
         ensures stands { Stands S.Store self.old self.new }
     {
         let known = self.load_revision(number, id, rev)?;
@@ -68,7 +71,8 @@ impl<S: Alter> SqlStore<S> {
 
     /// Tells whether a revision is the winner of a document.
     fn is_winner(&mut self, number: &i64, id: &DocId, rev: &Rev) -> Result<bool, StoreFault>
-        ensures answer { Answers S.Store self.old self.new (λ is. is) (Some (names (winner (history_in (trees_of S.Store self.old revs_tree) number.now id.now)) rev.now)) result }
+        ensures answer { Answers S.Store self.old self.new (λ is. is)
+            (Some (names (winner (history_in (trees_of S.Store self.old revs_tree) number.now id.now)) rev.now)) result }
         ensures stands { Stands S.Store self.old self.new }
     {
         match self.find_winner(number, id)? {
@@ -92,7 +96,8 @@ impl<S: Alter> SqlStore<S> {
 
     /// Reads the history of a document.
     fn load_history(&mut self, number: &i64, id: &DocId) -> Result<History, StoreFault>
-        ensures answer { Answers S.Store self.old self.new (λ history. history) (Some (history_in (trees_of S.Store self.old revs_tree) number.now id.now)) result }
+        ensures answer { Answers S.Store self.old self.new (λ history. history)
+            (Some (history_in (trees_of S.Store self.old revs_tree) number.now id.now)) result }
         ensures stands { Stands S.Store self.old self.new }
     {
         let rows = self.revision_rows(number, id.as_str().as_bytes())?;
@@ -101,7 +106,8 @@ impl<S: Alter> SqlStore<S> {
 
     /// Reads the history of a document without its bodies.
     pub(crate) fn load_outline(&mut self, number: &i64, id: &DocId) -> Result<Outline, StoreFault>
-        ensures answer { Answers S.Store self.old self.new (λ outline. outline) (Some (outline_of (history_in (trees_of S.Store self.old revs_tree) number.now id.now))) result }
+        ensures answer { Answers S.Store self.old self.new (λ outline. outline)
+            (Some (outline_of (history_in (trees_of S.Store self.old revs_tree) number.now id.now))) result }
         ensures stands { Stands S.Store self.old self.new }
     {
         let rows = self.outline_rows(number, id.as_str().as_bytes())?;
@@ -115,7 +121,8 @@ impl<S: Alter> SqlStore<S> {
         id: &DocId,
         rev: &Rev,
     ) -> Result<Option<Entry>, StoreFault>
-        ensures answer { Answers S.Store self.old self.new (λ found. found) (Some (map.get (history_in (trees_of S.Store self.old revs_tree) number.now id.now) rev.now)) result }
+        ensures answer { Answers S.Store self.old self.new (λ found. found)
+            (Some (map.get (history_in (trees_of S.Store self.old revs_tree) number.now id.now) rev.now)) result }
         ensures stands { Stands S.Store self.old self.new }
     {
         let id = id.as_str().as_bytes();
@@ -129,7 +136,8 @@ impl<S: Alter> SqlStore<S> {
         number: &i64,
         id: &DocId,
     ) -> Result<Option<MarkedRev>, StoreFault>
-        ensures answer { Answers S.Store self.old self.new (λ found. found) (Some (marked_winner (history_in (trees_of S.Store self.old revs_tree) number.now id.now))) result }
+        ensures answer { Answers S.Store self.old self.new (λ found. found)
+            (Some (marked_winner (history_in (trees_of S.Store self.old revs_tree) number.now id.now))) result }
         ensures stands { Stands S.Store self.old self.new }
     {
         let rows = self.document_rows(number, id.as_str().as_bytes())?;

@@ -1,6 +1,6 @@
 //! Which rows of the documents of a database a page needs.
 
-ghost use Rattle.sqlstore.specs.Listing.{IsLimitFor};
+ghost use Rattle.sqlstore.specs.inner.Listing.{IsLimitFor};
 
 use crate::sql_store::SqlStore;
 use sqlite::{Alter, Row};
@@ -19,7 +19,7 @@ pub(crate) fn limit_of(limit: Option<u64>) -> i64
 }
 
 impl<S: Alter> SqlStore<S> {
-    ghost use Rattle.sqlstore.specs.Listing.{AreEnoughBySequence, listed_by_sequence};
+    ghost use Rattle.sqlstore.specs.inner.Listing.{AreEnoughBySequence, listed_by_sequence};
     ghost use Rattle.sqlstore.specs.Model.{Finds};
 
     /// Returns the rows that a page by sequence needs: those behind its start up to its limit; none where

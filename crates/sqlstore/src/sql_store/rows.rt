@@ -9,7 +9,8 @@ use tables::{databases, documents, locals, revisions};
 impl<S: Alter> SqlStore<S> {
     ghost use Rattle.std.specs.Prelude.{◌≡◌, IsPermutation, filter, map};
     ghost use Rattle.sqlite_keyed.specs.Lists.{sort_by};
-    ghost use Rattle.tables.specs.Rows.{by_name, is_named, is_of, is_revision_of, listed_document, shown_database, shown_hash, shown_local, shown_name, shown_outline, shown_revision};
+    ghost use Rattle.tables.specs.Rows.{by_name, is_named, is_of, is_revision_of, listed_document, shown_database};
+    ghost use Rattle.tables.specs.Rows.{shown_hash, shown_local, shown_name, shown_outline, shown_revision};
     ghost use Rattle.tables.specs.Schema.{dbs_tree, docs_tree, locals_tree, revs_tree};
     ghost use Rattle.sqlstore.specs.Model.{Finds};
 
@@ -31,7 +32,8 @@ impl<S: Alter> SqlStore<S> {
 
     /// Returns the rows of the known revisions of a document, in some order.
     pub(crate) fn revision_rows(&mut self, db: &i64, id: &[u8]) -> Result<Vec<Row>, StoreFault>
-        ensures { Finds S.Store (λ trees rows. ∥ IsPermutation (map shown_revision (filter (is_of db.now id.now) (trees revs_tree))) rows.items ∥₁) self.old self.new result }
+        ensures { Finds S.Store
+            (λ trees rows. ∥ IsPermutation (map shown_revision (filter (is_of db.now id.now) (trees revs_tree))) rows.items ∥₁) self.old self.new result }
     {
         let rows = revisions::revision_rows(&mut self.conn, db, id);
         judge_answer(&mut self.faults, &mut self.fetched, rows)
@@ -39,7 +41,8 @@ impl<S: Alter> SqlStore<S> {
 
     /// Returns the rows of the known revisions of a document without their bodies, in some order.
     pub(crate) fn outline_rows(&mut self, db: &i64, id: &[u8]) -> Result<Vec<Row>, StoreFault>
-        ensures { Finds S.Store (λ trees rows. ∥ IsPermutation (map shown_outline (filter (is_of db.now id.now) (trees revs_tree))) rows.items ∥₁) self.old self.new result }
+        ensures { Finds S.Store
+            (λ trees rows. ∥ IsPermutation (map shown_outline (filter (is_of db.now id.now) (trees revs_tree))) rows.items ∥₁) self.old self.new result }
     {
         let rows = revisions::outline_rows(&mut self.conn, db, id);
         judge_answer(&mut self.faults, &mut self.fetched, rows)
@@ -48,7 +51,8 @@ impl<S: Alter> SqlStore<S> {
     /// Returns the rows of the known revisions of a document, each with its number and its hash alone, in
     /// some order.
     pub(crate) fn hash_rows(&mut self, db: &i64, id: &[u8]) -> Result<Vec<Row>, StoreFault>
-        ensures { Finds S.Store (λ trees rows. ∥ IsPermutation (map shown_hash (filter (is_of db.now id.now) (trees revs_tree))) rows.items ∥₁) self.old self.new result }
+        ensures { Finds S.Store
+            (λ trees rows. ∥ IsPermutation (map shown_hash (filter (is_of db.now id.now) (trees revs_tree))) rows.items ∥₁) self.old self.new result }
     {
         let rows = revisions::hash_rows(&mut self.conn, db, id);
         judge_answer(&mut self.faults, &mut self.fetched, rows)
@@ -62,7 +66,9 @@ impl<S: Alter> SqlStore<S> {
         number: u32,
         hash: &str,
     ) -> Result<Vec<Row>, StoreFault>
-        ensures { Finds S.Store (λ trees rows. rows.items ≡ map shown_revision (filter (is_revision_of db.now id.now (record { number = number; hash = hash.now })) (trees revs_tree))) self.old self.new result }
+        ensures { Finds S.Store
+            (λ trees rows. rows.items ≡ map shown_revision
+            (filter (is_revision_of db.now id.now (record { number = number; hash = hash.now })) (trees revs_tree))) self.old self.new result }
     {
         let rows = revisions::one_revision_rows(&mut self.conn, db, id, number, hash);
         judge_answer(&mut self.faults, &mut self.fetched, rows)

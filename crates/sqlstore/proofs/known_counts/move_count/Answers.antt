@@ -1,4 +1,4 @@
-use Rattle.std.proofs.Common.{arith, ◌-◌}
+use Rattle.std.proofs.Common.{arith}
 use Rattle.sqlstore.proofs.known_counts.move_count.Goals as goal
 
 pub returns : goal.returns

@@ -1,6 +1,6 @@
 use Rattle.sqlstore.proofs.Common.{IsKnown, KnownDatabase, Option, ap, rules, subst, sym, ℤ, ◌∙◌, ◌≡◌}
 use Rattle.sqlstore.proofs.KnownCounts.{known_counted}
-use Rattle.sqlstore.specs.Listing.{all_count}
+use Rattle.sqlstore.specs.inner.Listing.{all_count}
 use Rattle.sqlstore.specs.Standing.{IsKnownDatabase}
 use Rattle.sqlstore.proofs.known_database.keep_count.Goals as goal
 

@@ -1,6 +1,6 @@
 use Rattle.sqlstore.proofs.Common.{IsKnown, KnownDatabase, Option, rules, subst, sym, ℤ, ◌≡◌}
 use Rattle.sqlstore.proofs.KnownCounts.{known_with_counts}
-use Rattle.sqlstore.specs.Marks.{AreCountsAt}
+use Rattle.sqlstore.specs.inner.Marks.{AreCountsAt}
 use Rattle.sqlstore.specs.Standing.{IsKnownDatabase}
 use Rattle.sqlstore.proofs.known_database.keep_counts.Goals as goal
 

@@ -1,6 +1,6 @@
 use Rattle.std.proofs.Common.{drop}
 use Rattle.store.specs.Database.{Document, TextMap}
-use Rattle.sqlstore.specs.Marks.{AreChanges, AreCounts}
+use Rattle.sqlstore.specs.inner.Marks.{AreChanges, AreCounts}
 use Rattle.sqlstore.proofs.known_counts.KnownCounts.after.Given as goal
 
 -- the counts are those of documents that the changes left make into the new ones

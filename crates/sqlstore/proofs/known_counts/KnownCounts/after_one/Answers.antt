@@ -1,7 +1,7 @@
 use Rattle.std.proofs.Common.{IfSome, true, false, ◌≡◌}
 use Rattle.std.specs.FinMap as map
 use Rattle.sqlstore.proofs.MarkCounts.{count_moved}
-use Rattle.sqlstore.specs.Marks.{count_in, marked_in}
+use Rattle.sqlstore.specs.inner.Marks.{count_in, marked_in}
 use Rattle.sqlstore.specs.declared.document_count.DocumentCount.{DocumentCount}
 use Rattle.sqlstore.proofs.known_counts.KnownCounts.after_one.Goals as goal
 

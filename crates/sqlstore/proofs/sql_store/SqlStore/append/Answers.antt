@@ -3,7 +3,7 @@ use Rattle.transactions.specs.Indexing.{AreKnownIndexes}
 use Rattle.sqlstore.proofs.Common.{IsStanding}
 use Rattle.sqlstore.proofs.Committed.{due_at, sound, told as told_of}
 use Rattle.sqlstore.proofs.MarkRows.{written_elsewhere}
-use Rattle.sqlstore.specs.Marks.{KeepsElsewhere, documents_at, ids_of}
+use Rattle.sqlstore.specs.inner.Marks.{KeepsElsewhere, documents_at, ids_of}
 use Rattle.sqlstore.proofs.sql_store.SqlStore.append.Goals as goal
 
 pub invariant_of-self : goal.invariant_of-self

@@ -2,7 +2,8 @@ use Rattle.sqlstore.proofs.Changing.{was_honest as had_honest}
 use Rattle.sqlstore.proofs.Committed.{due_at}
 use Rattle.sqlstore.proofs.Common.{IfSome}
 use Rattle.sqlstore.proofs.Lemmas.{Option, Trees, additions, stands_same, subst, trees_of, was_honest, ∥∥₁_elim, ∥∥₁_map, ∥∥₁_prop}
-use Rattle.sqlstore.specs.Marks.{AreCounts, AreMarks, KeepsElsewhere, documents_at, ids_of}
+use Rattle.ranks.specs.Counts.{AreRanksOf}
+use Rattle.sqlstore.specs.inner.Marks.{AreCounts, AreMarks, KeepsElsewhere, documents_at, ids_of, live_keys}
 use Rattle.sqlstore.specs.declared.sql_store.marking.CountedMarks.{CountedMarks}
 use Rattle.sqlstore.proofs.sql_store.SqlStore.append_counted.Goals as goal
 
@@ -21,10 +22,11 @@ move_counts-requires g c honest =
     let n = c.args.number.now in
     let ids = ids_of c.args.writes.now in
     let old = documents_at (trees_of g.S.Store s) n in
-    let counted = subst (λ (o : Option CountedMarks). IfSome o (λ k. ∥ AreCounts k.counts old × AreMarks k.marks old ∥₁)) c.in-Some.is (c.find_counted-counted.ensures.counted (had_honest g.S.Store mid done c.append.ensures.moves honest)) in
+    let counted = subst (λ (o : Option CountedMarks). IfSome o (λ k. ∥ AreCounts k.counts old × AreMarks k.marks old × IfSome k.ranks (λ r. AreRanksOf r (live_keys old)) ∥₁)) c.in-Some.is (c.find_counted-counted.ensures.counted (had_honest g.S.Store mid done c.append.ensures.moves honest)) in
     ∥∥₁_elim counted ∥∥₁_prop (λ given. ∥∥₁_map (c.in_ok-append.ensures.elsewhere honest) (λ keeps. (
       old,
       given.0,
       given.1,
+      given.2,
       subst (λ (t : Trees). KeepsElsewhere ids (documents_at t n) (documents_at (trees_of g.S.Store done) n)) (stands_same g.S.Store s mid c.find_counted-counted.ensures.stands) keeps,
     )))

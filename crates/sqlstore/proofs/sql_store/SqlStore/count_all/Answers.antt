@@ -1,7 +1,7 @@
 use Rattle.sqlstore.proofs.Common.{Coded-set, IfSome, IsKnown, Option, ap₂, coded_ℕ}
 use Rattle.sqlstore.proofs.IdRows.{all_counted}
 use Rattle.sqlstore.proofs.Lemmas.{Some, ap, inside, known_so, laid, state, subst, sym, trees_of, was_honest, ∥∥₁_elim, ∥∥₁_map, ∥∥₁_prop, ◌∙◌, ◌≡◌}
-use Rattle.sqlstore.specs.Listing.{all_count}
+use Rattle.sqlstore.specs.inner.Listing.{all_count}
 use Rattle.sqlstore.specs.declared.document_count.DocumentCount.{DocumentCount}
 use Rattle.tables.specs.Listings.{marked_count}
 use Rattle.tables.specs.Schema.{docs_tree}

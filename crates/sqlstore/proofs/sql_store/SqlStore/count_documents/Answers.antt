@@ -1,6 +1,6 @@
 use Rattle.sqlstore.proofs.Common.{Trees, if_counted, listed_counts}
 use Rattle.sqlstore.proofs.Lemmas.{Some, ap, false, inside, listed_by_sequence, stands_same, sym, trees_of, true, was_honest, ◌∙◌, ◌≡◌}
-use Rattle.sqlstore.specs.Listing.{all_count}
+use Rattle.sqlstore.specs.inner.Listing.{all_count}
 use Rattle.sqlstore.proofs.sql_store.SqlStore.count_documents.Goals as goal
 
 pub returns-clause-answer : goal.returns-clause-answer

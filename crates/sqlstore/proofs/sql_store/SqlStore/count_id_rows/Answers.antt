@@ -1,6 +1,6 @@
 use Rattle.sqlstore.proofs.Common.{Trees, count_by, length, listed_by_id, live_rows, rows_within}
 use Rattle.sqlstore.proofs.IdRows.{all_counted, counts_made}
-use Rattle.sqlstore.specs.Listing.{all_count}
+use Rattle.sqlstore.specs.inner.Listing.{all_count}
 use Rattle.sqlstore.proofs.ListedRows.{row_counts_set}
 use Rattle.sqlstore.proofs.Lemmas.{Some, ap, false, inside, laid, stands_same, stands_then, sym, trees_of, was_honest, ∥∥₁_elim, ◌∙◌, ◌≡◌}
 use Rattle.std.proofs.Common.{min}

@@ -1,9 +1,9 @@
 use Rattle.std.specs.FinMap as finite
 use Rattle.std.proofs.lemmas.List.{take_all, take_more}
 use Rattle.sqlstore.proofs.Common.{subst, take}
-use Rattle.sqlstore.proofs.Lemmas.{Trees, [], ap, arith, map-append, refl, stands_same, stands_then, sym, trees_of, was_honest, ◌++◌, ◌+◌, ◌∙◌, ◌∷◌}
+use Rattle.sqlstore.proofs.Lemmas.{Trees, [], ap, arith, map-append, refl, stands_same, stands_then, sym, trees_of, was_honest, ◌++◌, ◌∙◌, ◌∷◌}
 use Rattle.sqlstore.proofs.MarkChanges.{IsMixed, changed_at, mixed_all, mixed_none}
-use Rattle.sqlstore.specs.Marks.{AreChanges, documents_at, ids_of, mark_of}
+use Rattle.sqlstore.specs.inner.Marks.{AreChanges, documents_at, ids_of, mark_of}
 use Rattle.store.specs.declared.write.Write.{Write}
 use Rattle.sqlstore.proofs.sql_store.SqlStore.find_changes.Goals as goal
 

@@ -1,5 +1,5 @@
 use Rattle.sqlstore.proofs.Common.{Document, Stands, TextMap, is_honest, take, trees_of}
-use Rattle.sqlstore.specs.Marks.{AreChanges, AreMarks, documents_at, ids_of}
+use Rattle.sqlstore.specs.inner.Marks.{AreChanges, AreMarks, documents_at, ids_of}
 use Rattle.sqlstore.proofs.MarkChanges.{IsMixed}
 use Rattle.sqlstore.proofs.sql_store.SqlStore.find_changes.Given as goal
 

@@ -2,7 +2,7 @@ use Rattle.sqlstore.proofs.Lemmas.{IsPermutation, List, Some, ap, filter, hashes
 use Rattle.std.specs.Prelude.{IfSome, Option}
 use Rattle.tables.specs.Rows.{shown_hash}
 use Rattle.tree.specs.Revision.{Revision}
-use Rattle.sqlstore.specs.Reading.{EndsPath}
+use Rattle.sqlstore.specs.inner.Reading.{EndsPath}
 use Rattle.sqlstore.proofs.sql_store.SqlStore.find_leaves.Goals as goal
 
 pub returns-in_err-rev-clause-answer : goal.returns-in_err-rev-clause-answer

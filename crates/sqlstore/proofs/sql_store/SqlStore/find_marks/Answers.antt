@@ -1,7 +1,7 @@
 use Rattle.std.specs.FinMap as finite
 use Rattle.sqlstore.proofs.Lemmas.{Trees, ap, arith, refl, stands_same, stands_then, trees_of, was_honest, ◌∙◌}
 use Rattle.sqlstore.proofs.MarkChanges.{marks_put, none_marked}
-use Rattle.sqlstore.specs.Marks.{documents_at, mark_of}
+use Rattle.sqlstore.specs.inner.Marks.{documents_at, mark_of}
 use Rattle.sqlstore.proofs.sql_store.SqlStore.find_marks.Goals as goal
 
 pub loop-write-init : goal.loop-write-init

@@ -1,5 +1,5 @@
 use Rattle.sqlstore.proofs.Common.{Stands, is_honest, trees_of}
-use Rattle.sqlstore.specs.Marks.{AreMarks, documents_at}
+use Rattle.sqlstore.specs.inner.Marks.{AreMarks, documents_at}
 use Rattle.sqlstore.proofs.sql_store.SqlStore.find_marks.Given as goal
 
 -- the store stands as it was, and the marks are those of its documents

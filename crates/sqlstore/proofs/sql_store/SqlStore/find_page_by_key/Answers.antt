@@ -3,7 +3,7 @@ use Rattle.sqlstore.proofs.KeyEntries.{fault_of}
 use Rattle.sqlstore.proofs.Common.{Global, IndexPlace, Option, Result, Some, StoreFault, Vec, key_page}
 use Rattle.store.specs.declared.index_page.PageByKey.{PageByKey}
 use Rattle.sqlstore.proofs.Lemmas.{Err, List, arith, rules, subst, sym, trees_of, ◌≡◌}
-use Rattle.sqlstore.specs.ByKey.{AnswersOf}
+use Rattle.sqlstore.specs.inner.ByKey.{AnswersOf}
 use Rattle.sqlstore.specs.Model.{fault_count, is_honest}
 use Rattle.store.specs.KeyPageStructs.{key_page_of}
 use Rattle.store.specs.declared.index_page.KeyRow.{KeyRow}

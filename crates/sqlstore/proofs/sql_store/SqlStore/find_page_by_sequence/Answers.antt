@@ -14,7 +14,7 @@ returns-clause-answer g c =
     (λ honest.
     let at_mid = was_honest g.S.Store mid end c.rows_for_page_by_sequence.ensures.stands honest in
     let same = stands_same g.S.Store s mid c.count_documents.ensures.stands in
-    let enough = subst (λ (t : Trees). Rattle.sqlstore.specs.Listing.AreEnoughBySequence range (listed_by_sequence t n) c.in_ok-rows.rows.items) same (c.in_ok-rows.ensures.found honest) in
+    let enough = subst (λ (t : Trees). Rattle.sqlstore.specs.inner.Listing.AreEnoughBySequence range (listed_by_sequence t n) c.in_ok-rows.rows.items) same (c.in_ok-rows.ensures.found honest) in
     let counts = inside _ _ (c.in_ok-counts.ensures.answer at_mid) in
     let lay = laid g.S.Store s (was_honest g.S.Store s mid c.count_documents.ensures.stands at_mid) in (
       λ none. ∥∥₁_elim lay (λ p q. absurd p) (λ l. none (enough.intact (sequences_intact trees n l))),

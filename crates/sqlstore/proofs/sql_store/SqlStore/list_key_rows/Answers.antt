@@ -4,7 +4,7 @@ use Rattle.sqlstore.proofs.KeyEntries.{answers_by, entries_before, fault_of, ran
 use Rattle.sqlstore.proofs.Lemmas.{Err, List, Some, ap, arith, inside, rules, stands_then, subst, sym, trees_of, was_honest, ◌<◌, ◌^◌, ◌∙◌, ◌≡◌, ◌≤◌}
 use Rattle.sqlstore.proofs.Common.{Global, IndexPlace, Result, SqlStore, StoreFault, Vec, drop, up_to_limit}
 use Rattle.store.specs.KeyPages.{key_rows_within}
-use Rattle.sqlstore.specs.ByKey.{AnswersOf}
+use Rattle.sqlstore.specs.inner.ByKey.{AnswersOf}
 use Rattle.store.specs.declared.index_page.KeyRow.{KeyRow}
 use Rattle.sqlstore.specs.Model.{fault_count, is_honest}
 use Rattle.tables.specs.Schema.{entries_tree}

@@ -8,7 +8,7 @@ use Rattle.transactions.specs.declared.commit_fault.CommitFault.{CommitFault}
 use Rattle.transactions.specs.declared.commit_fault.CommitFault.TheVariants as write
 use Rattle.index.specs.declared.fault.IndexFault.{IndexFault}
 use Rattle.index.specs.declared.fault.IndexFault.TheVariants as index
-use Rattle.sqlstore.specs.Causes.{IsJudged}
+use Rattle.sqlstore.specs.inner.Causes.{IsJudged}
 
 -- the fault that a store tells of it
 abbrev pub IsToldAs : ℕ → ℕ → CommitFault → StoreFault → Type 0

@@ -1,6 +1,7 @@
 -- What the rows of databases and names say, and when they are intact.
 -- This server's own: rows are read by the words of `tables`.
-use Rattle.std.specs.Prelude.{◌≡◌, ℕ, ◌-◌, ℤ, Bool, if◌then◌else◌, IsTrue, List, length, filter, slice_get, Option, None, Some, Vec}
+use Rattle.std.specs.Prelude.{◌≡◌, ℕ, ◌-◌, ℤ, Bool, if◌then◌else◌, IfSome, IsTrue, List, [], ◌∷◌, length, filter, slice_get, Option, None, Some, Vec}
+use Rattle.std.specs.List.{AllByRecursion}
 use Rattle.std.specs.declared.alloc.Global.{Global}
 use Rattle.couch_json.specs.Value as json
 use Rattle.couch_json.specs.View.{view}
@@ -9,11 +10,14 @@ use Rattle.sqlite_value.specs.declared.value.Value.TheVariants.{Blob}
 use Rattle.sqlite_value.specs.Order.{Row, bytes, column}
 use Rattle.tables.specs.Rows.{count_in, is_named, json_in, length_of, number_of, security_of, whole_in}
 use Rattle.sqlite_trees.specs.Tree.{Trees}
-use Rattle.tables.specs.Schema.{dbs_tree}
+use Rattle.tables.specs.Schema.{dbs_tree, entries_tree}
 use Rattle.tables.specs.Shown.{revision_shown}
 use Rattle.tree.specs.Revision.{Revision}
+use Rattle.index.specs.Rows.{count_of}
 use Rattle.index.specs.declared.declaration.Declaration.{Declaration}
+use Rattle.ranks.specs.Seen.{Ranks}
 use Rattle.sqlstore.specs.declared.document_count.DocumentCount.{DocumentCount}
+use Rattle.sqlstore.specs.declared.entry_count.EntryCount.{EntryCount}
 use Rattle.sqlstore.specs.declared.known_counts.KnownCounts.{KnownCounts}
 use Rattle.sqlstore.specs.declared.known_database.KnownDatabase.{KnownDatabase}
 
@@ -36,13 +40,13 @@ numbers_in r = (number_of r, length_of r)
 abbrev pub known_values : KnownDatabase → FoundValues
 known_values k = (k.found.number, view k.found.security, k.found.sequence)
 
--- what is known after documents were written: the same, with this sequence and these indexes, and no count
+-- what is known after documents were written: the same, with this sequence and these indexes, and neither counts nor ranks
 abbrev pub at_sequence : ℕ → Vec Declaration Global → KnownDatabase → KnownDatabase
-at_sequence sequence indexes k = record k { found = record k.found { sequence = sequence }; live = None; deleted = None; indexes = Some indexes }
+at_sequence sequence indexes k = record k { found = record k.found { sequence = sequence }; live = None; deleted = None; ranks = None; indexes = Some indexes; entries = None }
 
--- the same, but that no index is known
+-- the same, but that neither an index is known, nor how many entries one has
 abbrev pub without_indexes : KnownDatabase → KnownDatabase
-without_indexes k = record k { indexes = None }
+without_indexes k = record k { indexes = None; entries = None }
 
 -- the count of the documents whose winner is marked so
 abbrev pub count_kept : Bool → KnownDatabase → Option DocumentCount
@@ -59,6 +63,26 @@ counts_of k = record { live = k.live; deleted = k.deleted }
 -- the same database, with these counts
 abbrev pub with_counts : KnownCounts → KnownDatabase → KnownDatabase
 with_counts counts k = record k { live = counts.live; deleted = counts.deleted }
+
+-- the same database, with these ranks
+abbrev pub with_ranks : Option Ranks → KnownDatabase → KnownDatabase
+with_ranks ranks k = record k { ranks = ranks }
+
+-- the same database, with how many entries its indexes have
+abbrev pub with_entries : Option (Vec EntryCount Global) → KnownDatabase → KnownDatabase
+with_entries entries k = record k { entries = entries }
+
+-- how many entries the index of a declaration has
+abbrev pub entry_count : Trees → ℤ → ℕ
+entry_count trees declaration = count_of declaration [] (8 ∷ []) (trees entries_tree)
+
+-- each of these numbers is that of the entries of its index
+abbrev pub AreEntryCounts : Trees → List EntryCount → Type 0
+AreEntryCounts trees counts = AllByRecursion (λ c. c.value ≡ entry_count trees c.declaration) counts
+
+-- the same, where some were counted
+abbrev pub AreKnownEntries : Trees → Option (Vec EntryCount Global) → Type 0
+AreKnownEntries trees counts = IfSome counts (λ cs. AreEntryCounts trees cs.items)
 
 -- of what a query shows of its row
 abbrev pub found_shown : Row → FoundValues

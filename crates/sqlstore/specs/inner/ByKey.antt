@@ -10,7 +10,7 @@ use Rattle.store.specs.declared.index_page.KeyRange.{KeyRange}
 use Rattle.tables.specs.Schema.{entries_tree}
 use Rattle.index.specs.Places.{AreEntriesAt}
 use Rattle.index.specs.Rows.{range_of}
-use Rattle.sqlstore.specs.Listing.{IsLimitFor}
+use Rattle.sqlstore.specs.inner.Listing.{IsLimitFor}
 use Rattle.sqlstore.specs.Model.{fault_count, is_honest, trees_of}
 use Rattle.sqlstore.specs.declared.sql_store.SqlStore.{SqlStore}
 

@@ -1,13 +1,13 @@
 -- What a page by id is read from: the rows of the documents between two bounds of bytes.
 -- This server's own: what the rows say is said by `tables`, and what a page is by `store`.
-use Rattle.std.specs.Prelude.{◌≡◌, ℕ, ℤ, pos, Bool, not, if◌then◌else◌, IsUtf8, List, Option, None, Some}
+use Rattle.std.specs.Prelude.{◌≡◌, ℕ, ℤ, pos, Bool, false, true, not, if◌then◌else◌, IsUtf8, List, Option, None, Some}
 use Rattle.std.specs.Cmp.Lexicographic.{slice_cmp}
 use Rattle.std.specs.Ordering.{is_le, is_lt, nat_cmp}
 use Rattle.sqlite_value.specs.Order.{Row}
 use Rattle.store.specs.Pages.{is_after_end, is_before_start}
 use Rattle.store.specs.declared.listing.IdRange.{IdRange}
 use Rattle.tables.specs.Listings.{live_range}
-use Rattle.sqlstore.specs.Listing.{IsLimitFor}
+use Rattle.sqlstore.specs.inner.Listing.{IsLimitFor}
 
 -- the bytes are not below the bound
 abbrev pub is_at_least : List ℕ → List ℕ → Bool
@@ -29,3 +29,13 @@ IsHighIdBound range bound = (id : List ℕ) → IsUtf8 id → is_at_least bound 
 -- the rows of a range, as a statement shows them whose limit loses none of them
 abbrev pub IsLiveRangeOf : IdRange → ℤ → List ℕ → List ℕ → List Row → List Row → Type 0
 IsLiveRangeOf range db low high rows shown = (most : ℤ) × IsLimitFor range.limit most × (shown ≡ live_range range.descending db low high most (pos range.skip) rows)
+
+-- a list upwards from the one bound that skips so many rows is that from the other which skips so many, whatever its end and its limit
+abbrev pub IsSameFrom : ℤ → List Row → List ℕ → ℕ → List ℕ → ℕ → Type 0
+IsSameFrom db rows low skip bound rest =
+    (high : List ℕ) (most : ℤ) → live_range false db low high most (pos skip) rows ≡ live_range false db bound high most (pos rest) rows
+
+-- and so is a list downwards
+abbrev pub IsSameDownFrom : ℤ → List Row → List ℕ → ℕ → List ℕ → ℕ → Type 0
+IsSameDownFrom db rows high skip bound rest =
+    (low : List ℕ) (most : ℤ) → live_range true db low high most (pos skip) rows ≡ live_range true db low bound most (pos rest) rows

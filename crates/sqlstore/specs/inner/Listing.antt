@@ -1,7 +1,7 @@
 -- The parts of a page that are made of the rows of a list, of histories and of what is counted.
 -- This server's own: pages are those of `store`, rows are read by the words of `tables`.
 use Rattle.std.specs.FinMap.{entries}
-use Rattle.std.specs.Prelude.{◌≡◌, ◌<◌, ◌^◌, ◌⊎◌, ℕ, ℤ, Bool, pos, negsuc, Option, Some, option_map, List, filter, map}
+use Rattle.std.specs.Prelude.{◌≡◌, ◌<◌, ◌^◌, ◌⊎◌, ◌&&◌, ℕ, ℤ, Bool, false, pos, negsuc, Option, Some, option_map, List, filter, map}
 use Rattle.std.specs.List.{AllByRecursion, count_by}
 use Rattle.tree.specs.History.{HistoryContent, leaves}
 use Rattle.store.specs.Database.{Database}
@@ -11,7 +11,7 @@ use Rattle.sqlite_value.specs.Order.{Row}
 use Rattle.sqlite_trees.specs.Tree.{Trees}
 use Rattle.sqlite_keyed.specs.Lists.{sort_by}
 use Rattle.tables.specs.Listings.{IsListedDocument, has_mark, listed_counts, listed_mark, listed_sequence, sequence_row}
-use Rattle.tables.specs.Rows.{by_id, by_sequence, is_in, listed_document}
+use Rattle.tables.specs.Rows.{by_id, by_sequence, id_of, is_gone as is_gone_row, is_in, listed_document}
 use Rattle.tables.specs.Schema.{docs_tree}
 
 -- the rows of all documents of a database, as a list of them shows them, by id
@@ -25,6 +25,10 @@ listed_by_sequence trees db = map listed_document (sort_by by_sequence (filter (
 -- how many documents of a database have a winner that is deleted, or is not, as it is asked for
 abbrev pub all_count : Trees → ℤ → Bool → ℕ
 all_count trees db deleted = count_by (λ s. has_mark deleted (listed_mark s)) (listed_by_sequence trees db)
+
+-- the ids of the documents of a database whose winner is not deleted, in the order of their rows
+abbrev pub live_ids : Trees → ℤ → List (List ℕ)
+live_ids trees db = map id_of (filter (λ r. is_in db r && has_mark false (is_gone_row r)) (trees docs_tree))
 
 -- the same, of the documents that a database holds
 abbrev pub document_count : Bool → Database → ℕ

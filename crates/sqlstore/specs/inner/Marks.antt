@@ -1,6 +1,6 @@
 -- How the winners of documents are marked, deleted or not, and how many are marked so; and what is known of both after documents were written.
 -- CouchDB manual, api/database/common (`doc_count`, `doc_del_count`); whose winner is deleted is said by `Pages` of `store`.
-use Rattle.std.specs.Prelude.{◌≡◌, ℕ, ℤ, Bool, false, bytes_eq, if◌then◌else◌, IfSome, List, [], ◌∷◌, map, None, Option, option_map, Some}
+use Rattle.std.specs.Prelude.{◌≡◌, ℕ, ℤ, Bool, false, bytes_eq, filter, if◌then◌else◌, IfSome, List, [], ◌∷◌, map, None, Option, option_map, Some}
 use Rattle.std.specs.BTreeMap as tree
 use Rattle.std.specs.BTreeMap.{BTreeMap}
 use Rattle.std.specs.Cmp.Lexicographic.{slice_cmp}
@@ -14,7 +14,7 @@ use Rattle.store.specs.declared.write.Write.{Write}
 use Rattle.tables.specs.Listings.{has_mark}
 use Rattle.tables.specs.Rows.{documents_in}
 use Rattle.tables.specs.Schema.{docs_tree, revs_tree}
-use Rattle.sqlstore.specs.Listing.{all_count}
+use Rattle.sqlstore.specs.inner.Listing.{all_count}
 use Rattle.sqlstore.specs.declared.document_count.DocumentCount.{DocumentCount}
 use Rattle.sqlstore.specs.declared.known_counts.KnownCounts.{KnownCounts}
 use Rattle.sqlstore.specs.declared.marked.Marked.{Marked}
@@ -46,6 +46,17 @@ ids_of ws = map (λ w. w.id) ws
 -- the documents of all other ids are as they were
 abbrev pub KeepsElsewhere : List (List ℕ) → TextMap Document → TextMap Document → Type 0
 KeepsElsewhere ids old new = (id : List ℕ) → list_any (λ k. bytes_eq k id) ids ≡ false → get new id ≡ get old id
+
+-- ---- ranks
+
+-- the ids of the documents whose winner is not deleted, in order
+abbrev pub live_keys : TextMap Document → List (List ℕ)
+live_keys documents = map (λ e. e.0) (filter (λ e. has_mark false (is_gone e.1.history)) (entries documents))
+
+-- whether a document with this mark has a winner that is not deleted
+abbrev pub is_live : Option Bool → Bool
+is_live None = false
+is_live (Some gone) = has_mark false gone
 
 -- ---- counts
 

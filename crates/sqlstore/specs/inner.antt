@@ -1,0 +1,8 @@
+-- What ties the code to the definitions of its clauses, and that no public clause names.
+pub mod Causes
+pub mod Reading
+pub mod Listing
+pub mod Marks
+pub mod Commits
+pub mod ById
+pub mod ByKey
