@@ -1,5 +1,5 @@
 -- Tables whose rows are sound hold lawful databases, and are laid out.
-use Rattle.tables.proofs.Common.{AllByRecursion, AreLawful, Bool, IsAscending, IsBody, IsDocumentRow, IsLaid, IsLocalRow, IsRevisionRow, List, None, Option, Revision, Row, Some, Trees, Value, Null, Int, Real, Text, Blob, [], all-filter, all_weaker, and_parts, ap, arith, ascending_weaker, column, cond, contents_in, count_in, database_at, database_of, db_of, dbs_tree, docs_tree, document_of, entry_of, eq_by_cmp, false, filter, find, has_number, history_in, id_of, inl, inr, inside, is_in, is_known, is_named, is_of, is_revision, length_of, local_of, locals_tree, greatest_number, map, meta_tree, nat_le, nat_tests, number_of, Decides-int_eq, parent_in, pos, refl, revision_cmp, revision_cmp_total, revision_of, revs_tree, same, same_int, sequence_of, slice_get, subst, sym, text_of, true, version_row, whole_in, winner, ℕ, ℤ, ◌&&◌, ◌-◌, ◌∙◌, ◌∷◌, ◌≡◌, ◌≢◌, ◌≤◌, ◌⊎◌, HistoryContent, Entry, eqb-true, held_of, LocalDocument}
+use Rattle.tables.proofs.Common.{AllByRecursion, AreLawful, Bool, IsAscending, IsBody, IsDatabaseRow, IsDocumentRow, IsLaid, IsLocalRow, IsRevisionRow, List, None, Option, Revision, Row, Some, Trees, Value, Null, Int, Real, Text, Blob, [], all-filter, all_weaker, and_parts, ap, arith, ascending_weaker, column, cond, contents_in, count_in, database_at, database_of, db_of, dbs_tree, docs_tree, document_of, entry_of, eq_by_cmp, false, filter, find, has_number, history_in, id_of, inl, inr, inside, is_in, is_known, is_named, is_of, is_revision, length_of, local_of, locals_tree, greatest_number, map, meta_tree, nat_le, nat_tests, number_of, Decides-int_eq, parent_in, pos, refl, revision_cmp, revision_cmp_total, revision_of, revs_tree, same, same_int, sequence_of, slice_get, subst, sym, text_of, true, version_row, whole_in, winner, ℕ, ℤ, ◌&&◌, ◌-◌, ◌∙◌, ◌∷◌, ◌≡◌, ◌≢◌, ◌≤◌, ◌⊎◌, HistoryContent, Entry, eqb-true, held_of, LocalDocument}
 use Rattle.std.specs.FinMap as finite
 use Rattle.std.specs.Prelude.{option_and_then, ◌==◌}
 use Rattle.std.specs.Cmp.{first_so}
@@ -17,8 +17,15 @@ use Rattle.tree.specs.History.{IsRooted, leaves}
 use Rattle.tree.specs.Revision.{is_hash}
 use Rattle.tree.specs.Write.{StandsIn}
 use Rattle.tree.specs.declared.entry.Held.{Held}
-use Rattle.file_check.specs.Tables.{AreShaped, AreSound, IsSoundDocument, stored_revision}
+use Rattle.file_check.specs.Tables.{AreShaped, IsSoundDocument, stored_revision}
 use Rattle.file_check.proofs.Written.{is_written}
+
+-- each row of these tables is sound
+pub record AreSound (trees : Trees) : Type 0 where
+  pub dbs : AllByRecursion IsDatabaseRow (trees dbs_tree)
+  pub docs : AllByRecursion (IsSoundDocument trees) (trees docs_tree)
+  pub revs : AllByRecursion (IsRevisionRow trees) (trees revs_tree)
+  pub locals : AllByRecursion (IsLocalRow trees) (trees locals_tree)
 
 -- ---- rows among rows
 
@@ -80,7 +87,7 @@ find_row q e (r ∷ rows) found = by (find_row q e rows) (eq_by_cmp revision_cmp
     by rest true tie f = record { row = r; among = inl refl; revision = sym (same q (revision_of r) tie); entry = inside (entry_of r) e f }
     by rest false tie f = let it = rest f in record { row = it.row; among = inr it.among; revision = it.revision; entry = it.entry }
 
-parent_number : (n : ℕ) (v : Value) (p : Revision) → parent_in n v ≡ Some p → p.number ≡ n - 1
+pub parent_number : (n : ℕ) (v : Value) (p : Revision) → parent_in n v ≡ Some p → p.number ≡ n - 1
 parent_number n Null p e = absurd cc
 parent_number n (Int m) p e = absurd cc
 parent_number n (Real x) p e = absurd cc

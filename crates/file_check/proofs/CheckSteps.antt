@@ -12,10 +12,10 @@ use Rattle.file_check.specs.Checks.{Checks, IsSame, LeavesRows}
 
 -- ---- states
 
-same_itself : (a : State) → IsSame a a
+pub same_itself : (a : State) → IsSame a a
 same_itself a = record { now = refl; committed = refl; mode = refl; is_open = refl }
 
-same_then : (a b c : State) → IsSame a b → IsSame b c → IsSame a c
+pub same_then : (a b c : State) → IsSame a b → IsSame b c → IsSame a c
 same_then a b c p q = record { now = q.now ∙ p.now; committed = q.committed ∙ p.committed; mode = q.mode ∙ p.mode; is_open = q.is_open ∙ p.is_open }
 
 pub unchanged_same : (a b : State) → IsUnchanged a b → IsSame a b

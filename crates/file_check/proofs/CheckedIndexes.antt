@@ -1,5 +1,5 @@
 -- The checks of the three tables are a check of all rows of indexes.
-use Rattle.std.proofs.Common.{◌≡◌, inl, inr, List, None, Ok, Option, Result, Some, subst}
+use Rattle.std.proofs.Common.{◌≡◌, inl, inr, None, Ok, Option, Result, Some, subst}
 use Rattle.std.specs.List.{AllByRecursion}
 use Rattle.sqlite.specs.Effect.{Database}
 use Rattle.sqlite.specs.Held.{Held, state}

@@ -11,7 +11,9 @@ use Rattle.tables.specs.Rows.{id_of, is_of}
 use Rattle.tables.specs.Schema.{docs_tree, revs_tree}
 use Rattle.tree.proofs.Shown.{inside}
 use Rattle.file_check.proofs.IndexRows.{own_text, spelled, undeclared}
+use Rattle.store.proofs.Winnings.{fields_alone}
 use Rattle.store.specs.Indexes.{index_fields_of}
+use Rattle.store.specs.Winning.{winner_alone}
 use Rattle.tables.specs.Rows.{history_in}
 use Rattle.tree.specs.History.{HistoryContent}
 use Rattle.file_check.specs.Indexes.{ArePaths, HasDeclarationCells, IsAnswer, IsOwnDeclaration, Spells}
@@ -55,8 +57,8 @@ spells_nothing o is = subst (λ x. Spells x None) (sym is) (record { says = refl
 
 -- what is spelled of a history is so of what is stored
 pub spells_stored : (trees : Trees) (db n : ℤ) (design i name m : List ℕ) (h : HistoryContent) (text : Option (List ℕ)) → text ≡ option_map fields_text (index_fields_of i h m) → IfSome (index_fields_of i h m) ArePaths
-    → h ≡ history_in (trees revs_tree) n i → n ≡ db → i ≡ design → m ≡ name → Spells (declares_in trees db design name) text
+    → h ≡ winner_alone (history_in (trees revs_tree) n i) → n ≡ db → i ≡ design → m ≡ name → Spells (declares_in trees db design name) text
 spells_stored trees db n design i name m h text says paths is numbered designed named =
     let same : index_fields_of i h m ≡ declares_in trees db design name =
-    ap (λ k. index_fields_of i k m) is ∙ (λ j. index_fields_of (designed j) (history_in (trees revs_tree) (numbered j) (designed j)) (named j)) in
+    ap (λ (k : HistoryContent). index_fields_of i k m) is ∙ fields_alone (history_in (trees revs_tree) n i) i m ∙ (λ j. index_fields_of (designed j) (history_in (trees revs_tree) (numbered j) (designed j)) (named j)) in
     record { says = says ∙ ap (option_map fields_text) same; paths = subst (λ o. IfSome o ArePaths) same paths }

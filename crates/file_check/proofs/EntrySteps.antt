@@ -1,5 +1,5 @@
 -- The steps of a look at one entry, one after another.
-use Rattle.std.proofs.Common.{◌≡◌, ◌∙◌, ap, Bool, Err, List, [], None, Ok, Result, Some, map, subst, sym, ℕ}
+use Rattle.std.proofs.Common.{◌≡◌, ◌∙◌, ap, Bool, Err, List, [], Ok, Result, Some, map, subst, sym, ℕ}
 use Rattle.std.specs.Prelude.{filter, find, slice_get, unwrap_or}
 use Rattle.sqlite.specs.Effect.{Database}
 use Rattle.sqlite.specs.Held.{Held, state}

@@ -18,6 +18,8 @@ use Rattle.std.specs.Ordering.{match_ordering, nat_cmp}
 use Rattle.std.specs.Prelude.{String, is_none, option_and_then, string_bytes}
 use Rattle.std.specs.declared.alloc.Global.{Global}
 use Rattle.store.proofs.Listings.{In}
+use Rattle.store.proofs.Winnings.{fields_alone, queried_alone}
+use Rattle.store.specs.Winning.{winner_alone}
 use Rattle.store.specs.Indexes.{declared_fields, fields_in, index_fields_of, queried_document, winning_body, indexes_if}
 use Rattle.tables.specs.Rows.{db_of, history_in, id_of}
 use Rattle.tables.specs.Schema.{revs_tree}
@@ -26,7 +28,7 @@ use Rattle.tree.specs.DocumentId.{is_design_id}
 use Rattle.tree.specs.History.{HistoryContent}
 use Rattle.file_check.proofs.DeclaredRows.{answer_as}
 use Rattle.file_check.proofs.EachAsked.{of_next}
-use Rattle.file_check.specs.IndexRows.{AreShownIndexes, IsShownIndex, shown_index}
+use Rattle.file_check.specs.inner.IndexRows.{AreShownIndexes, IsShownIndex, shown_index}
 use Rattle.file_check.specs.Indexes.{HasItsKey, HaveItsKeys, HaveRows, IsAnswer, IsIndexedDocument, IsReadable}
 
 -- ---- one document
@@ -54,21 +56,21 @@ module _ (trees : Trees) (d : Row) where
       (λ whole. whole.entered) h
 
   -- the same of what was read
-  pub design_told : (db : ℤ) (id : List ℕ) (h : HistoryContent) (b : Bool) → h ≡ history_in (trees revs_tree) db id → db ≡ db_of d → id ≡ id_of d → is_design_id id ≡ true → IsAnswer (HaveRows db id (index_fields_of id h) trees) b
+  pub design_told : (db : ℤ) (id : List ℕ) (h : HistoryContent) (b : Bool) → h ≡ winner_alone (history_in (trees revs_tree) db id) → db ≡ db_of d → id ≡ id_of d → is_design_id id ≡ true → IsAnswer (HaveRows db id (index_fields_of id h) trees) b
       → IsAnswer (IsIndexedDocument trees d) b
   design_told db id h b is numbered named design told =
       design_answer b (ap is_design_id (sym named) ∙ design)
       (subst (λ n. IsAnswer (HaveRows n (id_of d) (index_fields_of (id_of d) (history_in (trees revs_tree) n (id_of d))) trees) b) numbered
       (subst (λ i. IsAnswer (HaveRows db i (index_fields_of i (history_in (trees revs_tree) db i)) trees) b) named
-      (subst (λ k. IsAnswer (HaveRows db id (index_fields_of id k) trees) b) is told)))
+      (subst (λ f. IsAnswer (HaveRows db id f trees) b) (λ j name. (ap (λ (k : HistoryContent). index_fields_of id k name) is ∙ fields_alone (history_in (trees revs_tree) db id) id name) j) told)))
 
-  pub plain_told : (db : ℤ) (id : List ℕ) (h : HistoryContent) (b : Bool) → h ≡ history_in (trees revs_tree) db id → db ≡ db_of d → id ≡ id_of d → is_design_id id ≡ false → IsAnswer (HaveItsKeys db id (queried_document id h) trees) b
+  pub plain_told : (db : ℤ) (id : List ℕ) (h : HistoryContent) (b : Bool) → h ≡ winner_alone (history_in (trees revs_tree) db id) → db ≡ db_of d → id ≡ id_of d → is_design_id id ≡ false → IsAnswer (HaveItsKeys db id (queried_document id h) trees) b
       → IsAnswer (IsIndexedDocument trees d) b
   plain_told db id h b is numbered named plain told =
       plain_answer b (ap is_design_id (sym named) ∙ plain)
       (subst (λ n. IsAnswer (HaveItsKeys n (id_of d) (queried_document (id_of d) (history_in (trees revs_tree) n (id_of d))) trees) b) numbered
       (subst (λ i. IsAnswer (HaveItsKeys db i (queried_document i (history_in (trees revs_tree) db i)) trees) b) named
-      (subst (λ k. IsAnswer (HaveItsKeys db id (queried_document id k) trees) b) is told)))
+      (subst (λ o. IsAnswer (HaveItsKeys db id o trees) b) (ap (queried_document id) is ∙ queried_alone (history_in (trees revs_tree) db id) id) told)))
 
 -- ---- the names that a design document declares
 

@@ -1,7 +1,7 @@
 -- What the rows of a query by key say of the tables.
-use Rattle.tables.proofs.Common.{Bool, IsPermutation, List, Row, Trees, [], ap, cond, dbs_tree, docs_tree, false, filter, has_number, is_of, length, length-map, length_permutation, list_any, listed_document, map, option_map, refl, revs_tree, slice_get, slice_get-filter, true, ℕ, ℤ, ◌∙◌, ◌∷◌, ◌≡◌, ◌||◌, arith, nat_tests, column, whole_in}
+use Rattle.tables.proofs.Common.{Bool, IsPermutation, List, Row, Trees, [], ap, cond, dbs_tree, docs_tree, false, filter, has_number, is_of, length, id_of, int_eq, is_in, length-map, length_permutation, list_any, list_any-IsPermutation, listed_document, map, option_map, refl, revs_tree, slice_get, slice_get-filter, true, ℕ, ℤ, ◌∙◌, ◌∷◌, ◌≡◌, ◌||◌, arith, nat_tests, bytes, bytes_eq, column, sym, whole_in, ◌&&◌}
 use Rattle.std.specs.Prelude.{nat_lt}
-use Rattle.file_check.specs.Tables.{is_stored, length_at, length_shown, shown_length, shown_stored}
+use Rattle.file_check.specs.inner.Queries.{is_numbered, is_shown_hash, is_stored, length_at, length_shown, shown_length, shown_numbered, shown_stored}
 
 first_shown : (rows : List Row) → length_shown (map shown_length rows) ≡ option_map (λ d. whole_in (column d 4)) (slice_get rows 0)
 first_shown [] = refl
@@ -24,7 +24,29 @@ pub documents_found : (trees : Trees) (db : ℤ) (id : List ℕ) (rows : List Ro
 documents_found trees db id rows is =
     ap (λ l. nat_lt 0 (length l)) is ∙ ap (nat_lt 0) (length-map (filter (is_of db id) (trees docs_tree)) listed_document) ∙ some_left (is_of db id) (trees docs_tree)
 
-pub revisions_found : (trees : Trees) (db : ℤ) (id : List ℕ) (number : ℤ) (hash : List ℕ) (rows : List Row) → IsPermutation (map shown_stored (filter (is_stored db id number hash) (trees revs_tree))) rows
+pub stored_found : (trees : Trees) (db : ℤ) (id : List ℕ) (number : ℤ) (hash : List ℕ) (rows : List Row) → IsPermutation (map shown_stored (filter (is_stored db id number hash) (trees revs_tree))) rows
     → nat_lt 0 (length rows) ≡ list_any (is_stored db id number hash) (trees revs_tree)
-revisions_found trees db id number hash rows same =
+stored_found trees db id number hash rows same =
     ap (nat_lt 0) (length_permutation _ rows same ∙ length-map (filter (is_stored db id number hash) (trees revs_tree)) shown_stored) ∙ some_left (is_stored db id number hash) (trees revs_tree)
+
+-- ---- hashes that are compared
+
+any_shown : (hash : List ℕ) (p : Row → Bool) (rows : List Row) → list_any (is_shown_hash hash) (map shown_numbered (filter p rows)) ≡ list_any (λ r. p r && bytes_eq (bytes (column r 4)) hash) rows
+any_shown hash p [] = refl
+any_shown hash p (r ∷ rows) = by (p r) (any_shown hash p rows)
+  where
+    by : (b : Bool) → list_any (is_shown_hash hash) (map shown_numbered (filter p rows)) ≡ list_any (λ x. p x && bytes_eq (bytes (column x 4)) hash) rows
+        → list_any (is_shown_hash hash) (map shown_numbered (cond b (r ∷ filter p rows) (filter p rows))) ≡ ((b && bytes_eq (bytes (column r 4)) hash) || list_any (λ x. p x && bytes_eq (bytes (column x 4)) hash) rows)
+    by true rest = ap (λ more. bytes_eq (bytes (column r 4)) hash || more) rest
+    by false rest = rest
+
+regrouped : (a b c d : Bool) → ((a && (b && c)) && d) ≡ (a && (b && (c && d)))
+regrouped true true c d = refl
+regrouped true false c d = refl
+regrouped false b c d = refl
+
+pub hashes_found : (trees : Trees) (db : ℤ) (id : List ℕ) (number : ℤ) (hash : List ℕ) (rows : List Row) → IsPermutation (map shown_numbered (filter (is_numbered db id number) (trees revs_tree))) rows
+    → list_any (is_shown_hash hash) rows ≡ list_any (is_stored db id number hash) (trees revs_tree)
+hashes_found trees db id number hash rows same =
+    sym (list_any-IsPermutation (is_shown_hash hash) (map shown_numbered (filter (is_numbered db id number) (trees revs_tree))) rows same) ∙ any_shown hash (is_numbered db id number) (trees revs_tree)
+    ∙ (λ i. list_any (λ r. regrouped (is_in db r) (bytes_eq (id_of r) id) (int_eq (whole_in (column r 3)) number) (bytes_eq (bytes (column r 4)) hash) i) (trees revs_tree))

@@ -17,7 +17,7 @@ use Rattle.index.specs.declared.fault.IndexFault.{IndexFault}
 use Rattle.index.specs.declared.fault.IndexFault.TheVariants as index
 use Rattle.file_check.proofs.CheckSteps.{unchanged_same}
 use Rattle.file_check.specs.Checks.{Checks}
-use Rattle.file_check.specs.IndexRows.{TellsFound}
+use Rattle.file_check.specs.inner.IndexRows.{TellsFound}
 use Rattle.file_check.specs.declared.finding.CheckFault.{CheckFault}
 
 -- there is a first row where some row passes

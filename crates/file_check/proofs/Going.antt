@@ -1,5 +1,6 @@
 -- What is read of an open connection, in no statement or in many.
 use Rattle.tables.proofs.Common.{Asks, Database, Err, Ghosts, Held, IfOk, IsTrue, IsUnchanged, Ok, OnOk, Result, State, Trees, ap, inl, inr, refl, schema, state, subst, sym, ◌∙◌, ◌≡◌, ◌⊎◌}
+use Rattle.sqlite.specs.State.{HasCleanDisk}
 use Rattle.file_check.specs.Inspecting.{Goes, Inspects}
 use Rattle.file_check.proofs.Inspecting.{asks_then, unchanged_then}
 
@@ -75,5 +76,36 @@ module _ {S : Type 0} {g : Ghosts S} {IsFit : Database → Type 0} (ours : (d : 
     served = λ clean. on_ok r (h.served (k.asks.clean clean));
     stands = λ has clean. let still = h.stands has (k.asks.clean clean) in ok_both (state g old) (state g mid) (state g new) r still (k.stands (has_still g old mid has still) clean still.0.is_open);
     looks = λ has clean last. let still = h.stands has (k.asks.clean clean) in looks_both (state g old) (state g mid) (state g new) still (k.looks (has_still g old mid has still) clean still.0.is_open last);
+    asks = asks_then (state g old) (state g mid) (state g new) h.asks k.asks;
+  }
+
+-- what is read after what may have read nothing
+module _ {S : Type 0} {g : Ghosts S} {IsFit : Database → Type 0} (ours : (d : Database) → IsFit d → d.schema ≡ schema) {X E Y F : Type 0} {old mid new : Held S} {Is : Trees → X → Type 0} {IsNext : Trees → Y → Type 0} (IsOther : Trees → Y → Type 0) (x : X) where
+  still_then : (r : Result Y F) → Goes {E = E} g IsFit old mid Is (Ok x) → Inspects g IsFit mid new IsNext r → old.schema ≡ schema → HasCleanDisk (state g new) → IsTrue (state g mid).is_open → IsUnchanged (state g old) (state g mid)
+  still_then r h k has clean up = let was = k.asks.clean clean in h.stands has was (h.asks.was_open was up)
+
+  looks_then : (r : Result Y F) → Goes {E = E} g IsFit old mid Is (Ok x) → Inspects g IsFit mid new IsNext r → old.schema ≡ schema → HasCleanDisk (state g new) → IsTrue (state g new).is_open
+      → ((state g new).now ≡ (state g old).now) ⊎ ((state g new).now ≡ (state g old).committed)
+  looks_then r h k has clean last =
+      let still = still_then r h k has clean (k.asks.was_open clean last) in
+      looks_both (state g old) (state g mid) (state g new) still (k.looks (has_still g old mid has still) clean last)
+
+  pub goes_inspects : (r : Result Y F) → ((d : Database) → IsFit d → Is d.trees x → (y : Y) → IsNext d.trees y → IsOther d.trees y) → Goes {E = E} g IsFit old mid Is (Ok x) → Inspects g IsFit mid new IsNext r → Inspects g IsFit old new IsOther r
+  goes_inspects (Ok y) so h k = record {
+    found = λ clean fit.
+        let was = k.asks.clean clean in
+        let up = k.served clean in
+        let still = still_then (Ok y) h k (ours _ fit) clean up in
+        so (state g old).now fit (h.found was (h.asks.was_open was up) fit) y (subst (λ (d : Database). IsNext d.trees y) still.0.now_is (k.found clean (subst IsFit (sym still.0.now_is) fit)));
+    served = λ clean. h.asks.was_open (k.asks.clean clean) (k.served clean);
+    stands = λ has clean. let still = still_then (Ok y) h k has clean (k.served clean) in unchanged_then (state g old) (state g mid) (state g new) still (k.stands (has_still g old mid has still) clean);
+    looks = looks_then (Ok y) h k;
+    asks = asks_then (state g old) (state g mid) (state g new) h.asks k.asks;
+  }
+  goes_inspects (Err f) so h k = record {
+    found = λ clean fit. tt;
+    served = λ clean. tt;
+    stands = λ has clean. tt;
+    looks = looks_then (Err f) h k;
     asks = asks_then (state g old) (state g mid) (state g new) h.asks k.asks;
   }

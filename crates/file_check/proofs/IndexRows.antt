@@ -210,7 +210,7 @@ module _ (trees : Trees) (h : IsIndexed trees) where
     entries = each_entry;
   }
 
-never_fails : (of : Table) (rows : List Row) (Is : Row → Type 0) (f : Finding) → AllByRecursion Is rows → IsFinding of rows Is f → ⊥
+pub never_fails : (of : Table) (rows : List Row) (Is : Row → Type 0) (f : Finding) → AllByRecursion Is rows → IsFinding of rows Is f → ⊥
 never_fails of rows Is f all h = let found = find_found Is (has_number f.key) rows h.fails.row all h.fails.there in h.fails.fails found.0
 
 -- what is found tells that the rows of indexes are not those of what is stored

@@ -11,18 +11,18 @@ use Rattle.tables.proofs.DatabaseStatements.{by_number, tests_number}
 use Rattle.tables.proofs.Queries.{first_program}
 use Rattle.tables.proofs.Sorted.{by_their_numbers, sorted_already}
 use Rattle.file_check.specs.Indexes.{AreDeclarationCells, HasDeclarationCells, HasIndexCells}
-use Rattle.file_check.specs.IndexRows.{next_declaration, next_document, next_entry, shown_index}
-use Rattle.file_check.specs.Walks.{is_behind, next_rows}
+use Rattle.file_check.specs.inner.IndexRows.{next_declaration, next_document, next_entry, shown_index}
+use Rattle.file_check.specs.inner.Walks.{is_behind, next_rows}
 
 -- ---- the next row
 
-abbrev number_order : List (Term × Key)
+abbrev pub number_order : List (Term × Key)
 number_order = (col 1 0, record { collation = Binary; descending = false }) ∷ []
 
 abbrev pub by_behind : List Term
 by_behind = compares Gt 0 0 ∷ []
 
-abbrev one : Term
+abbrev pub one : Term
 one = lit (Int (pos 1))
 
 all_pass : (rows : List Row) → filter (is_behind None) rows ≡ rows

@@ -2,10 +2,13 @@
 use Rattle.tables.proofs.Common.{AllByRecursion, Blob, Bool, Database, Err, HistoryContent, IfOk, Int, IsDatabaseNumber, IsDatabaseRow, IsLocalRow, IsPermutation, IsRevisionRow, List, None, Null, Ok, Option, Real, Result, Revision, Row, Some, Text, Trees, Value, any_is_found, ap, arith, column, count_in, database_at, db_of, dbs_tree, filter, has_number, history_in, id_of, inside, ints, is_gone, is_of, is_some, length_of, map, nat_tests, negsuc, option_map, pos, refl, revision_of, revs_tree, sequence_of, shown_revision, subst, sym, true, whole_in, winner_text, ℕ, ℤ, ◌∙◌, ◌≡◌, ◌≢◌, ◌≤◌}
 use Rattle.std.specs.Prelude.{int_le, ⊤}
 use Rattle.tables.proofs.Sorted.{both_in}
+use Rattle.tables.specs.Shown.{IsShownRevision}
 use Rattle.transactions.specs.Reading.{history_shown}
 use Rattle.file_check.proofs.HistoryMade.{AreApart, history_made}
-use Rattle.file_check.specs.Rows.{IsLawfulDocument, IsLawfulLocal, IsOwnedDocument, IsWinning}
-use Rattle.file_check.specs.Tables.{Accepts, AreShaped, HasDatabaseCells, HasDocumentCells, HasHeldLeaves, HasLocalCells, IsShaped, IsSoundDocument, Judges, length_at, stored_revision}
+use Rattle.file_check.proofs.ShownRevisions.{rows_intact}
+use Rattle.file_check.specs.inner.Rows.{IsLawfulDocument, IsLawfulLocal, IsOwnedDocument, IsWinning}
+use Rattle.file_check.specs.Tables.{AreShaped, HasDatabaseCells, HasDocumentCells, HasHeldLeaves, HasLocalCells, IsShaped, IsSoundDocument, stored_revision}
+use Rattle.file_check.specs.inner.Queries.{Judges, length_at}
 use Rattle.file_check.specs.declared.finding.CheckFault.{CheckFault}
 use Rattle.file_check.specs.declared.finding.Wrong.{Wrong}
 
@@ -16,14 +19,20 @@ some_mapped f (Some x) = refl
 pub number_there : (trees : Trees) (db : ℤ) → is_some (length_at trees db) ≡ true → IsDatabaseNumber trees db
 number_there trees db some = any_is_found (has_number db) (trees dbs_tree) ∙ sym (some_mapped (λ d. whole_in (column d 4)) (database_at (trees dbs_tree) db)) ∙ some
 
+there_number : (trees : Trees) (db : ℤ) → IsDatabaseNumber trees db → is_some (length_at trees db) ≡ true
+there_number trees db there = some_mapped (λ d. whole_in (column d 4)) (database_at (trees dbs_tree) db) ∙ sym (any_is_found (has_number db) (trees dbs_tree)) ∙ there
+
 local_of_database : (trees : Trees) (r : Row) → IsDatabaseNumber trees (db_of r) → IsLawfulLocal r → IsLocalRow trees r
 local_of_database trees r there k = record { is = k.is; there = there; named = k.named; small = k.small; body = k.body }
 
-pub accepted_local : (trees : Trees) (r : Row) (there : Bool) → there ≡ is_some (length_at trees (db_of r)) → (judged : Result (Option Wrong) CheckFault) → (HasLocalCells r → IfOk judged (Accepts ((there ≡ true) × IsLawfulLocal r)))
-    → IfOk judged (λ found. HasLocalCells r → Accepts (IsLocalRow trees r) found)
-accepted_local trees r there is (Err e) judge = tt
-accepted_local trees r there is (Ok (Some w)) judge = λ cells. tt
-accepted_local trees r there is (Ok None) judge = λ cells. let k = judge cells in local_of_database trees r (number_there trees (db_of r) (sym is ∙ k.0)) k.1
+lawful_local : (trees : Trees) (r : Row) → IsLocalRow trees r → IsLawfulLocal r
+lawful_local trees r k = record { is = k.is; named = k.named; small = k.small; body = k.body }
+
+pub judged_local : (trees : Trees) (r : Row) (there : Bool) → there ≡ is_some (length_at trees (db_of r)) → (judged : Result (Option Wrong) CheckFault) → (HasLocalCells r → IfOk judged (Judges ((there ≡ true) × IsLawfulLocal r)))
+    → IfOk judged (λ found. HasLocalCells r → Judges (IsLocalRow trees r) found)
+judged_local trees r there is (Err e) judge = tt
+judged_local trees r there is (Ok (Some w)) judge = λ cells k. judge cells (is ∙ there_number trees (db_of r) k.there, lawful_local trees r k)
+judged_local trees r there is (Ok None) judge = λ cells. let k = judge cells in local_of_database trees r (number_there trees (db_of r) (sym is ∙ k.0)) k.1
 
 -- ---- documents
 
@@ -69,16 +78,55 @@ apart_where_sound trees shaped sound =
     let hash = ap (λ (q : Revision). q.hash) same_revision in
     apart db_same id_same (λ i. (number i, hash i))) (trees revs_tree) sound shaped.revisions_apart
 
-pub accepted_document : (d : Database) (r : Row) (length : Option ℤ) (rows : List Row) → IsShaped d → IsPermutation (map shown_revision (filter (is_of (db_of r) (id_of r)) (d.trees revs_tree))) rows → (judged : Result (Option Wrong) CheckFault)
-    → (HasDocumentCells r → IfOk judged (Accepts (IsLawfulDocument r × IsOwnedDocument r length (history_shown rows))))
-    → IfOk judged (λ found. HasDocumentCells r → length ≡ length_at d.trees (db_of r) → AllByRecursion (IsRevisionRow d.trees) (d.trees revs_tree) → Accepts (IsSoundDocument d.trees r) found)
-accepted_document d r length rows fit same (Err e) judge = tt
-accepted_document d r length rows fit same (Ok (Some w)) judge = λ cells is sound. tt
-accepted_document d r length rows fit same (Ok None) judge = λ cells is sound. document_of_database d.trees r length rows is (apart_where_sound d.trees fit.shaped sound) same (judge cells).0 (judge cells).1
+-- ---- and a sound document passes
+
+whole_of_count : (v : Value) (s : ℕ) → 1 ≤ s → s ≤ count_in v → int_le (pos s) (whole_in v) ≡ true
+whole_of_count Null s low h = absurd (omega (arith, low, h))
+whole_of_count (Int (pos n)) s low h = grind (arith, ints, nat_tests, h)
+whole_of_count (Int (negsuc n)) s low h = absurd (omega (arith, low, h))
+whole_of_count (Real x) s low h = absurd (omega (arith, low, h))
+whole_of_count (Text t) s low h = absurd (omega (arith, low, h))
+whole_of_count (Blob b) s low h = absurd (omega (arith, low, h))
+
+module _ (trees : Trees) (r : Row) (length : Option ℤ) (is : length ≡ length_at trees (db_of r)) (k : IsSoundDocument trees r) where
+  lawful_document : IsLawfulDocument r
+  lawful_document = record { is = k.row.is; named = k.row.named; text = k.row.text; positive = k.row.positive }
+
+  within_its : (n : ℤ) × (length ≡ Some n) × (int_le (whole_in (column r 3)) n ≡ true)
+  within_its = by (database_at (trees dbs_tree) (db_of r)) refl (sym (any_is_found (has_number (db_of r)) (trees dbs_tree)) ∙ k.row.there)
+    where
+      by : (o : Option Row) → database_at (trees dbs_tree) (db_of r) ≡ o → is_some o ≡ true → (n : ℤ) × (length ≡ Some n) × (int_le (whole_in (column r 3)) n ≡ true)
+      by None found some = absurd cc
+      by (Some d) found some = (
+        whole_in (column d 4),
+        is ∙ ap (option_map (λ x. whole_in (column x 4))) found,
+        ap (λ n. int_le n (whole_in (column d 4))) (ap (λ x. whole_in (column x 3)) k.row.is) ∙ whole_of_count (column d 4) (sequence_of r) k.row.positive (k.row.within d found),
+      )
+
+  owned_where_sound : (rows : List Row) → AreApart (trees revs_tree) → IsPermutation (map shown_revision (filter (is_of (db_of r) (id_of r)) (trees revs_tree))) rows → IsOwnedDocument r length (history_shown rows)
+  owned_where_sound rows apart same =
+      let h = history_in (trees revs_tree) (db_of r) (id_of r) in
+      let made : h ≡ history_shown rows = sym (history_made trees (db_of r) (id_of r) rows apart same) in
+      let own : IsWinning h (winner_text r) (is_gone r) = record { won = k.row.won; marked = k.row.gone } in
+      record {
+        within = within_its;
+        winning = subst (λ (x : HistoryContent). IsWinning x (winner_text r) (is_gone r)) made own;
+        leaves = subst HasHeldLeaves made k.leaves;
+      }
+
+pub judged_document : (d : Database) (r : Row) (length : Option ℤ) (rows : List Row) → IsShaped d → IsPermutation (map shown_revision (filter (is_of (db_of r) (id_of r)) (d.trees revs_tree))) rows → (judged : Result (Option Wrong) CheckFault)
+    → (HasDocumentCells r → AllByRecursion IsShownRevision rows → IfOk judged (Judges (IsLawfulDocument r × IsOwnedDocument r length (history_shown rows))))
+    → IfOk judged (λ found. HasDocumentCells r → length ≡ length_at d.trees (db_of r) → AllByRecursion (IsRevisionRow d.trees) (d.trees revs_tree) → Judges (IsSoundDocument d.trees r) found)
+judged_document d r length rows fit same (Err e) judge = tt
+judged_document d r length rows fit same (Ok (Some w)) judge = λ cells is sound k.
+    judge cells (rows_intact d.trees (is_of (db_of r) (id_of r)) rows sound same) (lawful_document d.trees r length is k, owned_where_sound d.trees r length is k rows (apart_where_sound d.trees fit.shaped sound) same)
+judged_document d r length rows fit same (Ok None) judge = λ cells is sound.
+    let k = judge cells (rows_intact d.trees (is_of (db_of r) (id_of r)) rows sound same) in
+    document_of_database d.trees r length rows is (apart_where_sound d.trees fit.shaped sound) same k.0 k.1
 
 -- ---- databases
 
-pub accepted_database : (r : Row) (judged : Result (Option Wrong) CheckFault) → (HasDatabaseCells r → IfOk judged (Judges (IsDatabaseRow r))) → IfOk judged (λ found. HasDatabaseCells r → ⊤ → Accepts (IsDatabaseRow r) found)
-accepted_database r (Err e) judge = tt
-accepted_database r (Ok (Some w)) judge = λ cells before. tt
-accepted_database r (Ok None) judge = λ cells before. judge cells
+pub judged_database : (r : Row) (judged : Result (Option Wrong) CheckFault) → (HasDatabaseCells r → IfOk judged (Judges (IsDatabaseRow r))) → IfOk judged (λ found. HasDatabaseCells r → ⊤ → Judges (IsDatabaseRow r) found)
+judged_database r (Err e) judge = tt
+judged_database r (Ok (Some w)) judge = λ cells before. judge cells
+judged_database r (Ok None) judge = λ cells before. judge cells

@@ -6,7 +6,9 @@ use Rattle.index.proofs.Filled.{unwritten_unseen}
 use Rattle.index.proofs.Spots.{any_in, at_in}
 use Rattle.index.specs.declared.declaration.Declaration.{Declaration}
 use Rattle.sqlite.specs.Effect.{Database}
+use Rattle.store.proofs.Winnings.{queried_alone}
 use Rattle.store.specs.Indexes.{queried_document}
+use Rattle.store.specs.Winning.{winner_alone}
 use Rattle.tables.proofs.Tables.{of_these}
 use Rattle.tables.specs.Layout.{IsDocumentRow, IsLaid}
 use Rattle.tables.specs.Listings.{SpellsId}
@@ -14,7 +16,7 @@ use Rattle.tables.specs.Rows.{history_in, id_of, is_of}
 use Rattle.tables.specs.Schema.{docs_tree, revs_tree}
 use Rattle.tree.proofs.Shown.{inside}
 use Rattle.tree.specs.History.{HistoryContent}
-use Rattle.file_check.specs.IndexRows.{shown_index}
+use Rattle.file_check.specs.inner.IndexRows.{shown_index}
 use Rattle.file_check.specs.Indexes.{IsAnswer, IsOwnEntry}
 
 -- what is no id of a document is not seen
@@ -55,9 +57,9 @@ module _ (trees : Trees) (e : Row) where
     key_entry seen key b is at same = answered b (due_by (Some seen) is ∙ ap (λ o. is_key o (key_of e)) at ∙ sym same)
 
 -- what was read is what is seen
-pub seen_told : (trees : Trees) {o : Option Value} {h : HistoryContent} {n db : ℤ} {i id : List ℕ} → o ≡ queried_document i h → h ≡ history_in (trees revs_tree) n i → n ≡ db → i ≡ id → sees_in trees db id ≡ o
-seen_told trees {i = i} says is numbered named =
-    sym (says ∙ ap (queried_document i) is ∙ (λ j. queried_document (named j) (history_in (trees revs_tree) (numbered j) (named j))))
+pub seen_told : (trees : Trees) {o : Option Value} {h : HistoryContent} {n db : ℤ} {i id : List ℕ} → o ≡ queried_document i h → h ≡ winner_alone (history_in (trees revs_tree) n i) → n ≡ db → i ≡ id → sees_in trees db id ≡ o
+seen_told trees {n = n} {i = i} says is numbered named =
+    sym (says ∙ ap (queried_document i) is ∙ queried_alone (history_in (trees revs_tree) n i) i ∙ (λ j. queried_document (named j) (history_in (trees revs_tree) (numbered j) (named j))))
 
 -- what is found of the index of an entry is what the row of its declaration says
 pub index_says : (db : Database) → HasIndexRows db → (d e : Row) → declaration_at (db.trees decls_tree) (declaration_of e) ≡ Some d → (index : Row) → index ≡ shown_index d → {n : ℤ} {design name : List ℕ}

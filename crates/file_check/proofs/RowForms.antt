@@ -1,7 +1,8 @@
 -- When a row is sound, by its cells.
-use Rattle.tables.proofs.Common.{Blob, Bool, Int, Real, int_lt, ints, negsuc, IsBody, IsDatabaseRow, IsTrue, List, None, Null, Option, Row, Some, Text, Value, [], ap, arith, body_cell, bytes, canonical, column, cond, count_in, db_of, entry_of, false, flag, id_of, is_database_name, is_document_id, is_gone, is_held, is_marked, is_set, json_in, length_of, local_of, name_of, nat_tests, number_of, suc, option_map, pos, refl, security_of, security_text, sequence_of, subst, sym, true, value_or_null, Err, whole_in, winner_text, ℕ, ℤ, ◌<◌, ◌^◌, ◌∙◌, ◌∷◌, ◌≡◌, ◌≢◌, ◌≤◌, IsUtf8}
+use Rattle.tables.proofs.Common.{Blob, Bool, Int, Real, int_lt, ints, negsuc, IsBody, IsDatabaseRow, IsTrue, List, None, Null, Option, Row, Some, Text, Value, [], ap, arith, body_cell, bytes, canonical, column, cond, count_in, db_of, entry_of, false, flag, id_of, is_database_name, is_document_id, is_gone, is_held, is_marked, is_set, json_in, length_of, length, local_of, name_of, nat_tests, number_of, suc, option_map, pos, refl, security_of, security_text, sequence_of, subst, sym, true, value_or_null, Err, whole_in, winner_text, ℕ, ℤ, ◌<◌, ◌^◌, ◌∙◌, ◌∷◌, ◌≡◌, ◌≢◌, ◌≤◌, ◌⊎◌, inl, inr, IsUtf8}
 use Rattle.std.proofs.lemmas.Bool.{false≢true}
-use Rattle.std.specs.Prelude.{zero}
+use Rattle.std.proofs.lemmas.List.{get_or_past}
+use Rattle.std.specs.Prelude.{int_le, is_none, zero}
 use Rattle.couch_json.specs.Lawful as json
 use Rattle.couch_json.specs.Value as json_value
 use Rattle.couch_json.specs.Reading.{reading}
@@ -11,9 +12,9 @@ use Rattle.policy.specs.Security.{is_security}
 use Rattle.tree.specs.declared.entry.Held.{Held}
 use Rattle.tree.proofs.Shown.{inside}
 use Rattle.tree.specs.History.{HistoryContent}
-use Rattle.file_check.specs.Rows.{IsHeldSo, IsLawfulDocument, IsLawfulLocal, IsOwnedDocument}
-use Rattle.file_check.specs.Tables.{HasDatabaseCells, HasDocumentCells, HasLocalCells}
-use Rattle.file_check.specs.Texts.{IsBodyText, IsSecurityText}
+use Rattle.file_check.specs.inner.Rows.{IsHeldSo, IsLawfulDocument, IsLawfulLocal, IsOwnedDocument, IsWinning, ShowsNothing}
+use Rattle.file_check.specs.Tables.{HasDatabaseCells, HasDocumentCells, HasHeldLeaves, HasLocalCells}
+use Rattle.file_check.specs.inner.Texts.{IsBodyText, IsSecurityText}
 
 -- ---- databases
 
@@ -124,13 +125,13 @@ held_made o = option_map (λ (d : Bool × json_value.Value). record { deleted = 
 held_by_mark : (r : Row) (b : Bool) → is_set (column r 6) ≡ b → (entry_of r).held ≡ held_made (cond b (Some (is_set (column r 7), json_in (column r 8))) None)
 held_by_mark r b is = ap (λ c. held_made (cond c (Some (is_set (column r 7), json_in (column r 8))) None)) is
 
-pub held_none : (r : Row) → column r 6 ≡ Int (pos 0) → column r 7 ≡ Int (pos 0) → column r 8 ≡ Null → IsHeldSo r
-held_none r held mark none =
-    let nothing : (entry_of r).held ≡ None = held_by_mark r false (ap is_set held) in
+pub held_none : (r : Row) → ShowsNothing r → IsHeldSo r
+held_none r k =
+    let nothing : (entry_of r).held ≡ None = held_by_mark r false (ap is_set k.held) in
     record {
-      held = held ∙ ap (λ o. flag (is_held o)) (sym nothing);
-      mark = mark ∙ ap (λ o. flag (is_marked o)) (sym nothing);
-      text = none ∙ ap body_cell (sym nothing);
+      held = k.held ∙ ap (λ o. flag (is_held o)) (sym nothing);
+      mark = k.mark ∙ ap (λ o. flag (is_marked o)) (sym nothing);
+      text = k.text ∙ ap body_cell (sym nothing);
       body = λ h is. absurd (let z : None ≡ Some h = sym nothing ∙ is in cc);
       spelled = λ h is. absurd (let z : None ≡ Some h = sym nothing ∙ is in cc);
     }
@@ -146,6 +147,53 @@ held_some r m text held mark small text_is k lawful =
       body = λ h is. subst (λ (x : Held). IsBody x.body) (inside it h (sym some ∙ is)) (subst (λ v. IsBody (json_in v)) (sym text_is) k.body);
       spelled = λ h is. subst (λ (x : Held). json.IsLawful x.body) (inside it h (sym some ∙ is)) (subst (λ v. json.IsLawful (json_in v)) (sym text_is) lawful);
     }
+
+-- the cells of a revision of which this is held
+record ShowsHeld (r : Row) : Type 0 where
+  held : Held
+  entry : (entry_of r).held ≡ Some held
+  first : column r 6 ≡ Int (pos 1)
+  text : column r 8 ≡ Text (canonical held.body)
+
+shows_so : (r : Row) → IsHeldSo r → ShowsNothing r ⊎ ShowsHeld r
+shows_so r k = by (entry_of r).held refl
+  where
+    by : (o : Option Held) → (entry_of r).held ≡ o → ShowsNothing r ⊎ ShowsHeld r
+    by None is = inl (record { held = k.held ∙ ap (λ o. flag (is_held o)) is; mark = k.mark ∙ ap (λ o. flag (is_marked o)) is; text = k.text ∙ ap body_cell is })
+    by (Some h) is = inr (record { held = h; entry = is; first = k.held ∙ ap (λ o. flag (is_held o)) is; text = k.text ∙ ap body_cell is })
+
+-- where not nothing is shown, something is held
+shows_held : (r : Row) → ¬ ShowsNothing r → IsHeldSo r → ShowsHeld r
+shows_held r some k = by (shows_so r k)
+  where
+    by : ShowsNothing r ⊎ ShowsHeld r → ShowsHeld r
+    by (inl nothing) = absurd (some nothing)
+    by (inr held) = held
+
+pub held_uncounted : (r : Row) → ((n : ℕ) → column r 6 ≢ Int (pos n)) → ¬ IsHeldSo r
+held_uncounted r out k = flag_is_count (column r 6) (is_held (entry_of r).held) k.held out
+
+pub held_otherwise : (r : Row) (n : ℕ) → ¬ ShowsNothing r → column r 6 ≡ Int (pos n) → n ≢ 1 → ¬ IsHeldSo r
+held_otherwise r n some is other k = let h = shows_held r some k in other (ap count_in (sym is ∙ h.first))
+
+pub held_unmarked : (r : Row) → ((n : ℕ) → column r 7 ≢ Int (pos n)) → ¬ IsHeldSo r
+held_unmarked r out k = flag_is_count (column r 7) (is_marked (entry_of r).held) k.mark out
+
+pub held_overmarked : (r : Row) (m : ℕ) → column r 7 ≡ Int (pos m) → 1 < m → ¬ IsHeldSo r
+held_overmarked r m is over k = let low = flag_small (is_marked (entry_of r).held) m (sym k.mark ∙ is) in omega (arith, over, low)
+
+pub held_untold : (r : Row) → ¬ ShowsNothing r → ((t : List ℕ) → column r 8 ≢ Text t) → ¬ IsHeldSo r
+held_untold r some out k = let h = shows_held r some k in out (canonical h.held.body) h.text
+
+pub held_unspelled : (r : Row) (text : List ℕ) → ¬ ShowsNothing r → column r 8 ≡ Text text → ¬ IsBodyText text → ¬ IsHeldSo r
+held_unspelled r text some text_is out k =
+    let h = shows_held r some k in
+    let made : record { deleted = is_set (column r 7); body = json_in (column r 8) } ≡ h.held = inside _ h.held (sym (held_by_mark r true (ap is_set h.first)) ∙ h.entry) in
+    let body : h.held.body ≡ json_in (Text text) = ap (λ (x : Held). x.body) (sym made) ∙ ap json_in text_is in
+    out (record {
+      canonical = ap bytes (sym text_is ∙ h.text) ∙ ap canonical body;
+      body = subst IsBody body (k.body h.held h.entry);
+    })
 
 -- ---- texts
 
@@ -177,5 +225,33 @@ gone_not r none = by (column r 5) none
     by (Text t) none = refl
     by (Blob b) none = refl
 
+-- the sequence of a document is one of its database
+abbrev IsWithin : Row → Option ℤ → Type 0
+IsWithin r length = (n : ℤ) × (length ≡ Some n) × (int_le (whole_in (column r 3)) n ≡ true)
+
+module _ (r : Row) (length : Option ℤ) (h : HistoryContent) where
+  pub owned_so : IsWithin r length → IsWinning h (winner_text r) (is_gone r) → HasHeldLeaves h → IsOwnedDocument r length h
+  owned_so within winning leaves = record { within = within; winning = winning; leaves = leaves }
+
+  pub owned_nowhere : is_none length ≡ true → ¬ IsOwnedDocument r length h
+  owned_nowhere none k = let some = ap is_none k.within.1 in false≢true (sym some ∙ none)
+
+  pub owned_not_within : ¬ IsWithin r length → ¬ IsOwnedDocument r length h
+  owned_not_within out k = out k.within
+
+  pub owned_not_winning : ¬ IsWinning h (winner_text r) (is_gone r) → ¬ IsOwnedDocument r length h
+  owned_not_winning out k = out k.winning
+
+  pub owned_not_held : ¬ HasHeldLeaves h → ¬ IsOwnedDocument r length h
+  owned_not_held out k = out k.leaves
+
 pub owned_by : (r : Row) (length : Option ℤ) (h k : HistoryContent) → h ≡ k → IsOwnedDocument r length h → IsOwnedDocument r length k
 owned_by r length h k is owned = subst (IsOwnedDocument r length) is owned
+
+pub not_owned_by : (r : Row) (length : Option ℤ) (h k : HistoryContent) → h ≡ k → ¬ IsOwnedDocument r length h → ¬ IsOwnedDocument r length k
+not_owned_by r length h k is out owned = out (subst (IsOwnedDocument r length) (sym is) owned)
+
+-- ---- cells
+
+pub past_is_null : (r : Row) (at : ℕ) → length r ≤ at → column r at ≡ Null
+past_is_null r at past = get_or_past r at Null past

@@ -1,13 +1,20 @@
 -- A file whose rows are all sound is a store.
-use Rattle.tables.proofs.Common.{Err, Ghosts, HasCleanDisk, Held, IfOk, IsLaid, IsStore, IsTrue, None, Ok, Option, Result, Some, schema, state, subst, Trees, ◌≡◌}
+use Rattle.tables.proofs.Common.{Database, Err, Ghosts, HasCleanDisk, Held, IfOk, IsLaid, IsStore, IsTrue, MatchOption, None, Ok, OnOk, Option, Result, Some, inl, inr, schema, state, subst, Trees, ◌≡◌}
+use Rattle.std.specs.Prelude.{IfSome}
 use Rattle.sqlite.specs.State.{IsLive}
 use Rattle.sqlite_catalog.specs.Listing.{IsSound}
-use Rattle.file_check.proofs.Assembled.{is_laid}
+use Rattle.file_check.proofs.Assembled.{AreSound, is_laid}
+use Rattle.file_check.proofs.CheckSteps.{on_ok, unchanged_same}
+use Rattle.file_check.proofs.IndexRows.{never_fails}
+use Rattle.file_check.proofs.Laid.{kept_where_laid, sound_where_laid}
 use Rattle.file_check.proofs.Shaped.{are_shaped}
+use Rattle.file_check.specs.Checks.{IsSame}
 use Rattle.file_check.specs.Inspecting.{Inspects}
-use Rattle.file_check.specs.Tables.{Accepts, AreKept, AreShaped, AreSound, HasSoundLocals, IsShaped}
+use Rattle.file_check.specs.Tables.{AreKept, AreShaped, AreSoundRows, AreTablesChecked, HasSoundLocals, IsShaped, IsSoundRow, IsTableFinding, table_of, tree_of}
 use Rattle.file_check.specs.declared.finding.CheckFault.{CheckFault}
 use Rattle.file_check.specs.declared.finding.Finding.{Finding}
+use Rattle.file_check.specs.declared.layout.checked.Checked.{Checked}
+use Rattle.file_check.specs.declared.layout.checked.Checked.TheVariants.{Databases, Documents, Locals, Revisions}
 
 -- tables whose rows are all sound are laid out
 pub laid_where_sound : (trees : Trees) → AreShaped trees → HasSoundLocals trees → IsLaid trees
@@ -15,13 +22,46 @@ laid_where_sound trees shaped all =
     let sound : AreSound trees = record { dbs = all.before.before.before.dbs; docs = all.before.docs; revs = all.before.before.revs; locals = all.locals } in
     is_laid trees shaped sound all.before.before.before.version
 
-module _ {S : Type 0} (g : Ghosts S) (old new : Held S) (live : IsLive (state g old)) (clean : HasCleanDisk (state g new)) (has : old.schema ≡ schema) (kept : AreKept (state g old).now.trees) where
-  shaped : IsTrue (state g old).is_open → AreShaped (state g old).now.trees
-  shaped up = are_shaped (state g old).now.trees (subst (λ s. IsSound s (state g old).now.trees) has (live up).0) kept
+-- where a row is found that is not sound, they are not
+pub unlaid_where_found : (trees : Trees) (f : Finding) → IsTableFinding trees f → ¬ IsLaid trees
+unlaid_where_found trees f (inl version) h = version.fails h.version
+unlaid_where_found trees f (inr (of, row)) h = never_fails (table_of of) (trees (tree_of of)) (IsSoundRow of trees) f (all of) row
+  where
+    sound : HasSoundLocals trees
+    sound = sound_where_laid trees h
 
-  pub store_found : (result : Result (Option Finding) CheckFault) → Inspects g IsShaped old new (λ trees found. Accepts (HasSoundLocals trees) found) result → IfOk result (Accepts (IsStore (state g old).now))
-  store_found (Err e) h = tt
-  store_found (Ok (Some f)) h = tt
-  store_found (Ok None) h =
-      let shape = shaped (h.served clean) in
-      record { schema_is = has; laid = laid_where_sound (state g old).now.trees shape (h.found clean (record { schema_is = has; shaped = shape })) }
+    all : (table : Checked) → AreSoundRows table trees
+    all Databases = sound.before.before.before.dbs
+    all Documents = sound.before.docs
+    all Revisions = sound.before.before.revs
+    all Locals = sound.locals
+
+abbrev pub IsStoreChecked : Database → Option Finding → Type 0
+IsStoreChecked d found = MatchOption found (IsStore d) (IsTableFinding d.trees)
+
+module _ {S : Type 0} (g : Ghosts S) (old new : Held S) (live : IsLive (state g old)) (clean : HasCleanDisk (state g new)) where
+  shaped : old.schema ≡ schema → AreKept (state g old).now.trees → IsTrue (state g old).is_open → IsShaped (state g old).now
+  shaped has kept up = record { schema_is = has; shaped = are_shaped (state g old).now.trees (subst (λ s. IsSound s (state g old).now.trees) has (live up).0) kept }
+
+  pub store_found : old.schema ≡ schema → AreKept (state g old).now.trees → (result : Result (Option Finding) CheckFault) → Inspects g IsShaped old new (AreTablesChecked HasSoundLocals) result → IfOk result (IsStoreChecked (state g old).now)
+  store_found has kept (Err e) h = tt
+  store_found has kept (Ok (Some f)) h = h.found clean (shaped has kept (h.served clean))
+  store_found has kept (Ok None) h =
+      let fit = shaped has kept (h.served clean) in
+      record { schema_is = has; laid = laid_where_sound (state g old).now.trees fit.shaped (h.found clean fit) }
+
+  -- where something is found they are not those of a store, whatever the schema is
+  pub store_refuted : (result : Result (Option Finding) CheckFault) → Inspects g IsShaped old new (AreTablesChecked HasSoundLocals) result → IfOk result (λ found. IfSome found (λ f. ¬ IsStore (state g old).now))
+  store_refuted (Err e) h = tt
+  store_refuted (Ok (Some f)) h =
+      λ store. unlaid_where_found (state g old).now.trees f (h.found clean (shaped store.schema_is (kept_where_laid (state g old).now.trees store.laid) (h.served clean))) store.laid
+  store_refuted (Ok None) h = tt
+
+  -- it is open
+  pub tables_served : (result : Result (Option Finding) CheckFault) → Inspects g IsShaped old new (AreTablesChecked HasSoundLocals) result → IfOk result (λ found. found ≡ None → IsTrue (state g old).is_open)
+  tables_served (Err e) h = tt
+  tables_served (Ok found) h = λ none. h.served clean
+
+-- what reads at this server's schema leaves the connection as it was
+pub reads_stay : {S X E : Type 0} (g : Ghosts S) (old new : Held S) {F : Database → Type 0} {Is : Trees → X → Type 0} (r : Result X E) → old.schema ≡ schema → HasCleanDisk (state g new) → Inspects g F old new Is r → OnOk r (IsSame (state g old) (state g new))
+reads_stay g old new r has clean h = on_ok r (unchanged_same (state g old) (state g new)) (h.stands has clean)

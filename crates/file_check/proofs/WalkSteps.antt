@@ -11,7 +11,7 @@ use Rattle.file_check.proofs.CheckSteps.{checks_none, checks_so, checks_stop, ch
 use Rattle.file_check.proofs.WalkedRows.{first_next, row_step, shown_nothing, shown_there, walked_all, walked_next, walked_none}
 use Rattle.file_check.specs.Checks.{Checks}
 use Rattle.file_check.specs.Indexes.{AreChecked, IsAnswer}
-use Rattle.file_check.specs.Walks.{AreWalked, IsRowStep, IsStep, is_behind, next_rows}
+use Rattle.file_check.specs.inner.Walks.{AreWalked, IsRowStep, IsStep, is_behind, next_rows}
 use Rattle.file_check.specs.declared.finding.CheckFault.{CheckFault}
 use Rattle.file_check.specs.declared.finding.Finding.{Finding}
 use Rattle.file_check.specs.declared.finding.Table.{Table}

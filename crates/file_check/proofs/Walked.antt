@@ -1,32 +1,34 @@
--- Rows that are checked one after the other, and tables likewise.
-use Rattle.tables.proofs.Common.{AllByRecursion, Database, Int, IsPermutation, List, None, Option, Row, Some, Trees, [], drop, length, meta_tree, one_permutation, subst, sym, version_row, whole_in, ℕ, ◌+◌, ◌≤◌, ◌∙◌, ◌∷◌, ◌≡◌}
-use Rattle.sqlite_trees.proofs.ListLemmas.{all-permutation}
-use Rattle.std.proofs.lemmas.List.{drop_all}
+-- Tables that are checked one after the other.
+use Rattle.tables.proofs.Common.{AllByRecursion, AreNumbered, Database, Int, IsPermutation, List, MatchOption, None, Option, Row, Some, Trees, [], all-slice_get, ap, drop, find, has_number, inl, inr, length, meta_tree, number_of, one_permutation, refl, subst, sym, version_row, whole_in, ℕ, ◌+◌, ◌∙◌, ◌∷◌, ◌≡◌, ◌≤◌}
 use Rattle.std.proofs.lemmas.List.Sorted.{IsPermutation-sym}
-use Rattle.file_check.specs.declared.finding.Wrong.{Wrong}
-use Rattle.file_check.specs.Tables.{Accepts, AreShaped, AreSoundRows, HasCells, HasSoundDatabases, HasSoundDocuments, HasSoundLocals, HasSoundRevisions, HasVersionCells, IsBefore, IsShaped, IsSoundRow, IsThisVersion, tree_of}
+use Rattle.file_check.specs.Tables.{AreShaped, AreSoundRows, AreTablesChecked, HasSoundDatabases, HasSoundDocuments, HasSoundLocals, HasSoundRevisions, HasVersionCells, IsShaped, tree_of}
+use Rattle.file_check.specs.inner.Queries.{AreRowsChecked, HasCells, IsBefore, IsThisVersion}
 use Rattle.file_check.specs.declared.finding.Finding.{Finding}
+use Rattle.file_check.specs.declared.finding.Table.TheVariants as table
 use Rattle.file_check.specs.declared.layout.checked.Checked.{Checked}
 use Rattle.file_check.specs.declared.layout.checked.Checked.TheVariants.{Databases, Documents, Locals, Revisions}
 
-cells_of : (trees : Trees) → AreShaped trees → (table : Checked) → AllByRecursion (HasCells table) (trees (tree_of table))
+pub cells_of : (trees : Trees) → AreShaped trees → (table : Checked) → AllByRecursion (HasCells table) (trees (tree_of table))
 cells_of trees shaped Databases = shaped.dbs
 cells_of trees shaped Documents = shaped.docs
 cells_of trees shaped Revisions = shaped.revs
 cells_of trees shaped Locals = shaped.locals
 
--- all rows are sound where those that a query shows in some order are
-pub table_found : (d : Database) → IsShaped d → (table : Checked) (items shown : List Row) → shown ≡ items → IsPermutation (d.trees (tree_of table)) items → (found : Option Finding)
-    → (AllByRecursion (HasCells table) shown → IsBefore table d.trees → Accepts (AllByRecursion (IsSoundRow table d.trees) shown) found) → IsBefore table d.trees → Accepts (AreSoundRows table d.trees) found
-table_found d fit table items shown is same (Some f) next before = tt
-table_found d fit table items shown is same None next before =
-    let there = subst (IsPermutation (d.trees (tree_of table))) (sym is) same in
-    let cells = all-permutation (HasCells table) (d.trees (tree_of table)) shown there (cells_of d.trees fit.shaped table) in
-    all-permutation (IsSoundRow table d.trees) shown (d.trees (tree_of table)) (IsPermutation-sym (d.trees (tree_of table)) shown there) (next cells before)
+pub numbered_rows : (trees : Trees) → AreShaped trees → (of : Checked) → AreNumbered (trees (tree_of of))
+numbered_rows trees shaped Databases = shaped.kept.dbs
+numbered_rows trees shaped Documents = shaped.kept.docs
+numbered_rows trees shaped Revisions = shaped.kept.revs
+numbered_rows trees shaped Locals = shaped.kept.locals
 
-pub version_found : (d : Database) → IsShaped d → (items shown : List Row) → shown ≡ items → IsPermutation (d.trees meta_tree) items → (found : Option Finding) → Accepts (IsThisVersion shown) found
-    → Accepts (d.trees meta_tree ≡ version_row 2 ∷ []) found
-version_found d fit items shown is same (Some f) k = tt
+pub version_found : (d : Database) → IsShaped d → (items shown : List Row) → shown ≡ items → IsPermutation (d.trees meta_tree) items → (found : Option Finding)
+    → MatchOption found (IsThisVersion shown) (λ f. (f.table ≡ table.Meta) × (¬ IsThisVersion shown)) → AreTablesChecked (λ trees. trees meta_tree ≡ version_row 2 ∷ []) d.trees found
+version_found d fit items shown is same (Some f) k =
+    inl (record {
+      of_table = k.0;
+      fails = λ version.
+          let there : IsPermutation (version_row 2 ∷ []) shown = subst (λ l. IsPermutation l shown) version (subst (IsPermutation (d.trees meta_tree)) (sym is) same) in
+          k.1 (record { row = version_row 2; is = one_permutation (version_row 2) shown there; number = refl; version = refl });
+    })
 version_found d fit items shown is same None k =
     let there : IsPermutation (d.trees meta_tree) (k.row ∷ []) = subst (IsPermutation (d.trees meta_tree)) (sym is ∙ k.is) same in
     let one : d.trees meta_tree ≡ k.row ∷ [] = one_permutation k.row (d.trees meta_tree) (IsPermutation-sym (d.trees meta_tree) (k.row ∷ []) there) in
@@ -34,41 +36,32 @@ version_found d fit items shown is same None k =
     let row : k.row ≡ version_row 2 = cells ∙ (λ i. Int (whole_in (k.number i)) ∷ Int (whole_in (k.version i)) ∷ []) in
     one ∙ (λ i. row i ∷ [])
 
-pub databases_next : (trees : Trees) (before : Option Finding) → Accepts (trees meta_tree ≡ version_row 2 ∷ []) before → (found : Option Finding) → Accepts ((before ≡ None) × (IsBefore Databases trees → AreSoundRows Databases trees)) found → Accepts (HasSoundDatabases trees) found
-databases_next trees before k (Some f) next = tt
-databases_next trees before k None next = record { version = subst (Accepts (trees meta_tree ≡ version_row 2 ∷ [])) next.0 k; dbs = next.1 tt }
+-- ---- one table after the other
 
-pub revisions_next : (trees : Trees) (before : Option Finding) → Accepts (HasSoundDatabases trees) before → (found : Option Finding) → Accepts ((before ≡ None) × (IsBefore Revisions trees → AreSoundRows Revisions trees)) found → Accepts (HasSoundRevisions trees) found
-revisions_next trees before k (Some f) next = tt
-revisions_next trees before k None next = record { before = subst (Accepts (HasSoundDatabases trees)) next.0 k; revs = next.1 tt }
+-- what is answered of a table, where nothing was wrong before; or the finding stands
+abbrev pub IsNextChecked : Checked → Trees → Option Finding → Option Finding → Type 0
+IsNextChecked of trees found all = MatchOption found (IsBefore of trees → AreRowsChecked of trees all) (λ f. all ≡ Some f)
 
-pub documents_next : (trees : Trees) (before : Option Finding) → Accepts (HasSoundRevisions trees) before → (found : Option Finding) → Accepts ((before ≡ None) × (IsBefore Documents trees → AreSoundRows Documents trees)) found → Accepts (HasSoundDocuments trees) found
-documents_next trees before k (Some f) next = tt
-documents_next trees before k None next = let was : HasSoundRevisions trees = subst (Accepts (HasSoundRevisions trees)) next.0 k in record { before = was; docs = next.1 was.revs }
+pub next_stops : (trees : Trees) (of : Checked) (found : Option Finding) (f : Finding) → found ≡ Some f → IsNextChecked of trees found (Some f)
+next_stops trees of found f is = subst (λ o. IsNextChecked of trees o (Some f)) (sym is) refl
 
-pub locals_next : (trees : Trees) (before : Option Finding) → Accepts (HasSoundDocuments trees) before → (found : Option Finding) → Accepts ((before ≡ None) × (IsBefore Locals trees → AreSoundRows Locals trees)) found → Accepts (HasSoundLocals trees) found
-locals_next trees before k (Some f) next = tt
-locals_next trees before k None next = record { before = subst (Accepts (HasSoundDocuments trees)) next.0 k; locals = next.1 tt }
+pub next_found : (trees : Trees) (of : Checked) (found all : Option Finding) → found ≡ None → (IsBefore of trees → AreRowsChecked of trees all) → IsNextChecked of trees found all
+next_found trees of found all none h = subst (λ o. IsNextChecked of trees o all) (sym none) h
 
--- what is answered of a table, where nothing was wrong before
-pub next_found : (trees : Trees) (table : Checked) (before found : Option Finding) → before ≡ None → (IsBefore table trees → Accepts (AreSoundRows table trees) found) → Accepts ((before ≡ None) × (IsBefore table trees → AreSoundRows table trees)) found
-next_found trees table before (Some f) none h = tt
-next_found trees table before None none h = (none, h)
+both_checked : (of : Checked) (trees : Trees) (Before After : Trees → Type 0) → (Before trees → IsBefore of trees) → (Before trees → AreSoundRows of trees → After trees) → (found : Option Finding) → AreTablesChecked Before trees found
+    → (all : Option Finding) → IsNextChecked of trees found all → AreTablesChecked After trees all
+both_checked of trees Before After known joins (Some f) k all next = subst (AreTablesChecked After trees) (sym next) k
+both_checked of trees Before After known joins None k None next = joins k (next (known k))
+both_checked of trees Before After known joins None k (Some f) next = inr (of, next (known k))
 
--- ---- rows of a table, so far
+pub databases_next : (trees : Trees) (found : Option Finding) → AreTablesChecked (λ t. t meta_tree ≡ version_row 2 ∷ []) trees found → (all : Option Finding) → IsNextChecked Databases trees found all → AreTablesChecked HasSoundDatabases trees all
+databases_next trees found = both_checked Databases trees (λ t. t meta_tree ≡ version_row 2 ∷ []) HasSoundDatabases (λ k. tt) (λ k rows. record { version = k; dbs = rows }) found
 
--- the cells of the rows that are left are as they should be, and if those rows are sound, all are
-abbrev pub IsSoFar : Checked → Trees → List Row → ℕ → Type 0
-IsSoFar table trees rows i =
-    AllByRecursion (HasCells table) rows → IsBefore table trees → AllByRecursion (HasCells table) (drop i rows) × (AllByRecursion (IsSoundRow table trees) (drop i rows) → AllByRecursion (IsSoundRow table trees) rows)
+pub revisions_next : (trees : Trees) (found : Option Finding) → AreTablesChecked HasSoundDatabases trees found → (all : Option Finding) → IsNextChecked Revisions trees found all → AreTablesChecked HasSoundRevisions trees all
+revisions_next trees found = both_checked Revisions trees HasSoundDatabases HasSoundRevisions (λ k. tt) (λ k rows. record { before = k; revs = rows }) found
 
-pub walked_on : (table : Checked) (trees : Trees) (rows : List Row) (i : ℕ) (row : Row) → drop i rows ≡ row ∷ drop (i + 1) rows → IsSoFar table trees rows i → (found : Option Wrong) → found ≡ None
-    → (HasCells table row → IsBefore table trees → Accepts (IsSoundRow table trees row) found) → IsSoFar table trees rows (i + 1)
-walked_on table trees rows i row next so_far found none sound cells before =
-    let k = so_far cells before in
-    let here : AllByRecursion (HasCells table) (row ∷ drop (i + 1) rows) = subst (AllByRecursion (HasCells table)) next k.0 in
-    let own : IsSoundRow table trees row = subst (Accepts (IsSoundRow table trees row)) none (sound here.0 before) in
-    (here.1, λ rest. k.1 (subst (AllByRecursion (IsSoundRow table trees)) (sym next) (own, rest)))
+pub documents_next : (trees : Trees) (found : Option Finding) → AreTablesChecked HasSoundRevisions trees found → (all : Option Finding) → IsNextChecked Documents trees found all → AreTablesChecked HasSoundDocuments trees all
+documents_next trees found = both_checked Documents trees HasSoundRevisions HasSoundDocuments (λ k. k.revs) (λ k rows. record { before = k; docs = rows }) found
 
-pub all_walked : (table : Checked) (trees : Trees) (rows : List Row) (i : ℕ) → length rows ≤ i → IsSoFar table trees rows i → AllByRecursion (HasCells table) rows → IsBefore table trees → AllByRecursion (IsSoundRow table trees) rows
-all_walked table trees rows i none so_far cells before = (so_far cells before).1 (subst (AllByRecursion (IsSoundRow table trees)) (sym (drop_all i rows none)) tt)
+pub locals_next : (trees : Trees) (found : Option Finding) → AreTablesChecked HasSoundDocuments trees found → (all : Option Finding) → IsNextChecked Locals trees found all → AreTablesChecked HasSoundLocals trees all
+locals_next trees found = both_checked Locals trees HasSoundDocuments HasSoundLocals (λ k. tt) (λ k rows. record { before = k; locals = rows }) found

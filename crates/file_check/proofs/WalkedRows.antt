@@ -2,7 +2,7 @@
 use Rattle.index.proofs.Common.{AllByRecursion, Bool, IsAscending, List, None, Option, Row, Some, [], all_both, all_of, ap, arith, cond, false, filter, find, has_number, ints, map, number_of, option_map, refl, slice_get, sym, subst, take, true, ℤ, ◌<ℤ◌, ◌∙◌, ◌∷◌, ◌≡◌, find_found}
 use Rattle.std.specs.Prelude.{int_lt, unwrap_or}
 use Rattle.index.proofs.Following.{found_each}
-use Rattle.file_check.specs.Walks.{AreWalked, IsRowStep, IsStep, is_behind, next_rows}
+use Rattle.file_check.specs.inner.Walks.{AreWalked, IsRowStep, IsStep, is_behind, next_rows}
 use Rattle.file_check.specs.declared.finding.Table.{Table}
 use Rattle.file_check.specs.declared.indexes.step.Step.{Step}
 use Rattle.file_check.specs.declared.indexes.step.Step.TheVariants.{Next, Found, Done}

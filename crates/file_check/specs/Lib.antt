@@ -1,9 +1,8 @@
 pub mod Tables
 pub mod Inspecting
-pub mod Texts
-pub mod Rows
 pub mod Indexes
-pub mod IndexRows
-pub mod Walks
 pub mod Checks
+pub mod Schemas
+pub mod Counting
 pub mod Verdicts
+pub mod inner

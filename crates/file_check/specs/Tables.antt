@@ -1,8 +1,7 @@
 -- What a check of the tables decides: what SQLite says of the rows of each table, and when a row is sound.
 -- This server's own, over `Layout` of `tables`.
-use Rattle.std.specs.Prelude.{◌≡◌, ◌≢◌, ◌⊎◌, ◌&&◌, Bool, bytes_eq, ℕ, ℤ, pos, IsTrue, filter, List, [], ◌∷◌, length, is_some, option_map, Option, Some, None, MatchOption, ⊤}
+use Rattle.std.specs.Prelude.{◌≡◌, ◌≢◌, ◌⊎◌, ℕ, ℤ, IsTrue, List, [], ◌∷◌, length, is_some, Option, MatchOption}
 use Rattle.std.specs.List.{AllByRecursion}
-use Rattle.std.specs.Ordering.{int_eq}
 use Rattle.sqlite.specs.Effect.{Database}
 use Rattle.sqlite_value.specs.declared.value.Value.{Value}
 use Rattle.sqlite_value.specs.declared.value.Value.TheVariants.{Null, Int, Text, Blob}
@@ -10,9 +9,13 @@ use Rattle.sqlite_value.specs.Order.{Row, bytes, column}
 use Rattle.sqlite_trees.specs.Tree.{Trees, IsAscending}
 use Rattle.tree.specs.History.{HistoryContent, held_of, is_leaf}
 use Rattle.tree.specs.Revision.{Revision}
-use Rattle.tables.specs.Layout.{AreNumbered, database_at, version_row, IsDatabaseRow, IsDocumentRow, IsLaid, IsLocalRow, IsRevisionRow}
-use Rattle.tables.specs.Rows.{db_of, has_number, history_in, id_of, is_in, name_of, number_of, security_text, whole_in, winner_text}
+use Rattle.tables.specs.Layout.{AreNumbered, version_row, IsDatabaseRow, IsDocumentRow, IsLocalRow, IsRevisionRow}
+use Rattle.tables.specs.Rows.{db_of, history_in, id_of, name_of, number_of, security_text, whole_in, winner_text}
 use Rattle.tables.specs.Schema.{schema, meta_tree, dbs_tree, docs_tree, revs_tree, locals_tree}
+use Rattle.file_check.specs.Indexes.{IsFinding}
+use Rattle.file_check.specs.declared.finding.Finding.{Finding}
+use Rattle.file_check.specs.declared.finding.Table.{Table}
+use Rattle.file_check.specs.declared.finding.Table.TheVariants as table
 use Rattle.file_check.specs.declared.layout.checked.Checked.{Checked}
 use Rattle.file_check.specs.declared.layout.checked.Checked.TheVariants.{Databases, Documents, Revisions, Locals}
 
@@ -83,50 +86,6 @@ pub record IsSoundDocument (trees : Trees) (r : Row) : Type 0 where
   pub row : IsDocumentRow trees r
   pub leaves : HasHeldLeaves (history_in (trees revs_tree) (db_of r) (id_of r))
 
--- each row of these tables is sound, and there is one of the version
-pub record AreSound (trees : Trees) : Type 0 where
-  pub dbs : AllByRecursion IsDatabaseRow (trees dbs_tree)
-  pub docs : AllByRecursion (IsSoundDocument trees) (trees docs_tree)
-  pub revs : AllByRecursion (IsRevisionRow trees) (trees revs_tree)
-  pub locals : AllByRecursion (IsLocalRow trees) (trees locals_tree)
-
--- ---- what is answered
-
--- nothing is wrong where it is so, and where something is wrong it is not so
-abbrev pub Judges : {W : Type 0} → Type 0 → Option W → Type 0
-Judges IsSo found = MatchOption found IsSo (λ _. ¬ IsSo)
-
--- nothing is wrong where these are so, and where something is wrong the tables are not laid out
-abbrev pub Decides : {W : Type 0} → (Trees → Type 0) → Trees → Option W → Type 0
-Decides AreSo trees found = MatchOption found (AreSo trees) (λ _. ¬ IsLaid trees)
-
--- ---- rows by their keys
-
--- what a query of a database's row by its number shows: its sequence
-abbrev pub shown_length : Row → Row
-shown_length r = column r 4 ∷ []
-
--- the row of a revision of the document of this id, as it is stored
-abbrev pub is_stored : ℤ → List ℕ → ℤ → List ℕ → Row → Bool
-is_stored db id n hash r = is_in db r && (bytes_eq (id_of r) id && (int_eq (whole_in (column r 3)) n && bytes_eq (bytes (column r 4)) hash))
-
--- what a query of the numbers of rows shows
-abbrev pub shown_number : Row → Row
-shown_number r = column r 0 ∷ []
-
--- what a query of one such row shows: its number
-abbrev pub shown_stored : Row → Row
-shown_stored r = column r 3 ∷ []
-
--- the sequence that the first row shows, if there is one
-abbrev pub length_shown : List Row → Option ℤ
-length_shown [] = None
-length_shown (s ∷ more) = Some (whole_in (column s 0))
-
--- the sequence of the database of this number, as it is stored
-abbrev pub length_at : Trees → ℤ → Option ℤ
-length_at trees db = option_map (λ d. whole_in (column d 4)) (database_at (trees dbs_tree) db)
-
 -- ---- the tables that are checked row by row
 
 -- the tree of a table's rows
@@ -136,12 +95,6 @@ tree_of Documents = docs_tree
 tree_of Revisions = revs_tree
 tree_of Locals = locals_tree
 
-abbrev pub HasCells : Checked → Row → Type 0
-HasCells Databases r = HasDatabaseCells r
-HasCells Documents r = HasDocumentCells r
-HasCells Revisions r = HasRevisionCells r
-HasCells Locals r = HasLocalCells r
-
 -- the row is sound
 abbrev pub IsSoundRow : Checked → Trees → Row → Type 0
 IsSoundRow Databases trees r = IsDatabaseRow r
@@ -149,33 +102,11 @@ IsSoundRow Documents trees r = IsSoundDocument trees r
 IsSoundRow Revisions trees r = IsRevisionRow trees r
 IsSoundRow Locals trees r = IsLocalRow trees r
 
--- what is known before the rows of a table are checked: of documents, that the revisions are sound
-abbrev pub IsBefore : Checked → Trees → Type 0
-IsBefore Databases trees = ⊤
-IsBefore Documents trees = AllByRecursion (IsRevisionRow trees) (trees revs_tree)
-IsBefore Revisions trees = ⊤
-IsBefore Locals trees = ⊤
-
 -- each row of the table is sound
 abbrev pub AreSoundRows : Checked → Trees → Type 0
 AreSoundRows table trees = AllByRecursion (IsSoundRow table trees) (trees (tree_of table))
 
--- nothing is wrong where it is so
-abbrev pub Accepts : {W : Type 0} → Type 0 → Option W → Type 0
-Accepts IsSo found = MatchOption found IsSo (λ _. ⊤)
-
--- the row of the revision of this number is sound
-abbrev pub IsSoundAt : Trees → ℤ → Type 0
-IsSoundAt trees number = AllByRecursion (IsRevisionRow trees) (filter (has_number number) (trees revs_tree))
-
 -- ---- one table after the other
-
--- the one row of this version
-pub record IsThisVersion (rows : List Row) : Type 0 where
-  pub row : Row
-  pub is : rows ≡ row ∷ []
-  pub number : column row 0 ≡ Int (pos 1)
-  pub version : column row 1 ≡ Int (pos 2)
 
 -- the version is this one, and the databases are sound
 pub record HasSoundDatabases (trees : Trees) : Type 0 where
@@ -196,3 +127,29 @@ pub record HasSoundDocuments (trees : Trees) : Type 0 where
 pub record HasSoundLocals (trees : Trees) : Type 0 where
   pub before : HasSoundDocuments trees
   pub locals : AreSoundRows Locals trees
+
+-- ---- what is found
+
+-- the table that a finding in these rows names
+abbrev pub table_of : Checked → Table
+table_of Databases = table.Databases
+table_of Documents = table.Documents
+table_of Revisions = table.Revisions
+table_of Locals = table.Locals
+
+-- the row of this table with the finding's number is not sound
+abbrev pub IsRowFinding : Checked → Trees → Finding → Type 0
+IsRowFinding of trees f = IsFinding (table_of of) (trees (tree_of of)) (IsSoundRow of trees) f
+
+-- `meta` has other rows than the one of this version
+pub record IsVersionFinding (trees : Trees) (f : Finding) : Type 0 where
+  pub of_table : f.table ≡ table.Meta
+  pub fails : trees meta_tree ≢ version_row 2 ∷ []
+
+-- the version is another, or a row of one of the tables is not sound
+abbrev pub IsTableFinding : Trees → Finding → Type 0
+IsTableFinding trees f = IsVersionFinding trees f ⊎ ((of : Checked) × IsRowFinding of trees f)
+
+-- nothing is found, and the tables are so; or a row is found that is not sound
+abbrev pub AreTablesChecked : (Trees → Type 0) → Trees → Option Finding → Type 0
+AreTablesChecked AreSo trees found = MatchOption found (AreSo trees) (IsTableFinding trees)

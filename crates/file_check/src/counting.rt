@@ -1,25 +1,44 @@
 //! How many rows the tables of a connection have.
 
-ghost use Rattle.std.specs.Prelude.{IsTrue, OnOk};
-ghost use Rattle.sqlite.specs.Held.{state};
-ghost use Rattle.sqlite.specs.State.{HasCleanDisk};
-ghost use Rattle.tables.specs.Steps.{Asks};
+ghost use Rattle.std.specs.Prelude.{◌≡◌, ◌∷◌, [], ℕ, Some, length, min};
+ghost use Rattle.tables.specs.Calls.{Reads};
+ghost use Rattle.tables.specs.Listings.{shown_count};
+ghost use Rattle.file_check.specs.Counting.{CountsRows, row_count};
+ghost use Rattle.file_check.specs.Inspecting.{Inspects};
+ghost use Rattle.file_check.specs.inner.Counted.{HasOurSchema, count_statement, counted_tree};
 
 use crate::finding::{CheckFault, Counts};
-use sqlite::{Alter, Connection};
+use crate::layout::cells::count_at;
+use sqlite::{Alter, Connection, Error, Row};
 use tables::statement::query;
+
+/// A table whose rows are counted.
+#[derive(Clone, Copy, Debug, PartialEq, Eq)]
+pub enum Counted {
+    /// `dbs`, the databases.
+    Databases = 1,
+    /// `docs`, the documents.
+    Documents = 2,
+    /// `revs`, the known revisions.
+    Revisions = 3,
+    /// `locals`, the local documents.
+    Locals = 4,
+    /// `decls`, the indexes.
+    Declarations = 5,
+    /// `entries`, the entries of indexes.
+    Entries = 6,
+}
 
 /// Counts the rows of each table.
 pub(crate) fn count_rows<S: Alter>(conn: &mut Connection<S>) -> Result<Counts, CheckFault>
-    ensures served { HasCleanDisk (state S.Store conn.new) → OnOk result (IsTrue (state S.Store conn.old).is_open) }
-    ensures asks { Asks (state S.Store conn.old) (state S.Store conn.new) }
+    ensures { Inspects S.Store HasOurSchema conn.old conn.new CountsRows result }
 {
-    let databases = count(conn, "SELECT count(*) FROM dbs")?;
-    let documents = count(conn, "SELECT count(*) FROM docs")?;
-    let revisions = count(conn, "SELECT count(*) FROM revs")?;
-    let locals = count(conn, "SELECT count(*) FROM locals")?;
-    let indexes = count(conn, "SELECT count(*) FROM decls")?;
-    let entries = count(conn, "SELECT count(*) FROM entries")?;
+    let databases = count(conn, Counted::Databases)?;
+    let documents = count(conn, Counted::Documents)?;
+    let revisions = count(conn, Counted::Revisions)?;
+    let locals = count(conn, Counted::Locals)?;
+    let indexes = count(conn, Counted::Declarations)?;
+    let entries = count(conn, Counted::Entries)?;
     Ok(Counts {
         databases,
         documents,
@@ -30,15 +49,45 @@ pub(crate) fn count_rows<S: Alter>(conn: &mut Connection<S>) -> Result<Counts, C
     })
 }
 
-/// Returns the number that a query of one row shows.
-fn count<S: Alter>(conn: &mut Connection<S>, sql: &str) -> Result<u64, CheckFault>
-    ensures served { HasCleanDisk (state S.Store conn.new) → OnOk result (IsTrue (state S.Store conn.old).is_open) }
-    ensures asks { Asks (state S.Store conn.old) (state S.Store conn.new) }
+/// Counts the rows of a table.
+fn count<S: Alter>(conn: &mut Connection<S>, table: Counted) -> Result<u64, CheckFault>
+    ensures { Inspects S.Store HasOurSchema conn.old conn.new (λ trees count. count ≡ row_count (trees (counted_tree table))) result }
 {
-    let rows = query(conn, sql, &[])?;
-    let Some(row) = rows.first() else {
-        return Ok(0);
-    };
-    let count: i64 = row.get(0)?;
-    Ok(count.unsigned_abs())
+    let rows = count_shown(conn, table)?;
+    match read_count(&rows) {
+        Some(count) => Ok(count),
+        None => Err(CheckFault::Sqlite(Error::QueryReturnedNoRows)),
+    }
+}
+
+/// Reads the number that a query shows in its one row.
+fn read_count(rows: &[Row]) -> Option<u64>
+    ensures { (n : ℕ) → rows.now ≡ shown_count n ∷ [] → result ≡ Some (min n 9223372036854775807) }
+{
+    match rows {
+        [row] => count_at(row, 0),
+        _ => None,
+    }
+}
+
+/// Returns one row, which tells how many rows a table has.
+fn count_shown<S: Alter>(conn: &mut Connection<S>, table: Counted) -> Result<Vec<Row>, Error>
+    ensures { Reads S.Store HasOurSchema conn.old conn.new
+        (λ trees rows. rows.items ≡ shown_count (length (trees (counted_tree table))) ∷ []) result }
+{
+    query(conn, count_text(table), &[])
+}
+
+/// Returns the statement that counts the rows of a table.
+fn count_text(table: Counted) -> &'static str
+    ensures { result.now ≡ count_statement table }
+{
+    match table {
+        Counted::Databases => "SELECT count(*) FROM dbs",
+        Counted::Documents => "SELECT count(*) FROM docs",
+        Counted::Revisions => "SELECT count(*) FROM revs",
+        Counted::Locals => "SELECT count(*) FROM locals",
+        Counted::Declarations => "SELECT count(*) FROM decls",
+        Counted::Entries => "SELECT count(*) FROM entries",
+    }
 }

@@ -6,13 +6,16 @@ ghost use Rattle.file_check.specs.declared.finding.CheckFault.TheVariants as fau
 use couch_json::NoMemory;
 use sqlite::Error;
 use std::alloc::{AllocError, AllocFailed};
+use thiserror::Error as ErrorDerive;
 
 /// Why a check came to no end.
-#[derive(Drop)]
+#[derive(Clone, Copy, Debug, PartialEq, Eq, ErrorDerive)]
 pub enum CheckFault {
     /// A statement failed.
+    #[error("{0}")]
     Sqlite(Error),
     /// Memory ran out.
+    #[error("out of memory")]
     Memory,
 }
 
@@ -72,7 +75,7 @@ pub enum Table {
 /// What is wrong with a row.
 #[derive(Clone, Copy, Debug, PartialEq, Eq)]
 pub enum Wrong {
-    /// The schema is another, or the version is.
+    /// The schema is another, or the version is none.
     Layout = 1,
     /// A cell is of another kind, or a number is out of its range.
     Cell = 2,
@@ -92,6 +95,8 @@ pub enum Wrong {
     Index = 9,
     /// A row is missing.
     Missing = 10,
+    /// The file is of the first version, and is carried over when a store is opened over it.
+    First = 11,
 }
 
 /// A row that is not laid out.

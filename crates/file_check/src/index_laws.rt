@@ -24,5 +24,6 @@ pub fn a_finding_is_of_unsound_indexes()
 
 /// What SQLite holds the rows to, by the schema, gives them their cells and unique keys.
 pub fn cells_of_indexes()
-    ensures { (db : Database) → db.schema ≡ schema → IsDatabase db → AreNumbered (db.trees decls_tree) → AreNumbered (db.trees entries_tree) → HasIndexCells db }
+    ensures { (db : Database) → db.schema ≡ schema → IsDatabase db → AreNumbered (db.trees decls_tree) → AreNumbered (db.trees entries_tree)
+        → HasIndexCells db }
 {}

@@ -9,7 +9,7 @@ mod entered;
 mod followed;
 mod found;
 mod statements;
-mod step;
+pub(crate) mod step;
 mod stored;
 
 use crate::finding::{CheckFault, Finding};

@@ -1,6 +1,7 @@
 //! Whether the tables of a file are laid out as this server lays them out.
 #![tactic(auto)]
 
+mod comparing;
 mod counting;
 mod file;
 mod finding;

@@ -32,6 +32,7 @@ impl Wrong {
             Wrong::Parent => "parent",
             Wrong::Index => "index",
             Wrong::Missing => "missing",
+            Wrong::First => "first",
         }
     }
 }

@@ -5,6 +5,7 @@
 mod acceptance;
 mod address;
 mod checking;
+pub mod laws;
 mod listening;
 mod many;
 mod page_cache;

@@ -5,17 +5,17 @@ ghost use Rattle.sqlite_value.specs.Order as order;
 ghost use Rattle.tables.specs.Schema.{decls_tree};
 ghost use Rattle.index.specs.Meaning.{declares_in};
 ghost use Rattle.index.specs.Rows.{design_of, home_of, index_name_of};
-ghost use Rattle.file_check.specs.IndexRows.{IsNextDeclaration};
+ghost use Rattle.file_check.specs.inner.IndexRows.{IsNextDeclaration};
 ghost use Rattle.file_check.specs.Indexes.{AreChecked, IsAnswer, IsCheckable, IsOwnDeclaration, Spells};
 ghost use Rattle.file_check.specs.Checks.{Checks};
-ghost use Rattle.file_check.specs.Walks.{IsRowStep, IsStep};
+ghost use Rattle.file_check.specs.inner.Walks.{IsRowStep, IsStep};
 ghost use Rattle.file_check.specs.declared.finding.Table.TheVariants as table;
 
 use crate::finding::{CheckFault, Finding, Table, Wrong};
 use crate::indexes::cells::{are_same, blob_in, id_in, text_in, whole_in};
 use crate::indexes::statements::next_declaration;
 use crate::indexes::step::{Step, next_number};
-use crate::indexes::stored::{read_document, spell_index};
+use crate::indexes::stored::{read_winning, spell_index};
 use sqlite::{Alter, Connection, Row};
 use std::alloc::Global;
 
@@ -24,7 +24,8 @@ pub(crate) fn check_declarations<S: Alter>(
     alloc: Global,
     conn: &mut Connection<S>,
 ) -> Result<Option<Finding>, CheckFault>
-    ensures { Checks S.Store IsCheckable conn.old conn.new (λ trees found. AreChecked table.Declarations (trees decls_tree) (IsOwnDeclaration trees) found) result }
+    ensures { Checks S.Store IsCheckable conn.old conn.new
+        (λ trees found. AreChecked table.Declarations (trees decls_tree) (IsOwnDeclaration trees) found) result }
 {
     let mut last = None;
     for _row in 0..u64::MAX {
@@ -44,7 +45,8 @@ fn step_declaration<S: Alter>(
     conn: &mut Connection<S>,
     last: &Option<i64>,
 ) -> Result<Step, CheckFault>
-    ensures { Checks S.Store IsCheckable conn.old conn.new (λ trees step. IsStep table.Declarations (trees decls_tree) (IsOwnDeclaration trees) last.now step) result }
+    ensures { Checks S.Store IsCheckable conn.old conn.new
+        (λ trees step. IsStep table.Declarations (trees decls_tree) (IsOwnDeclaration trees) last.now step) result }
 {
     let rows = next_declaration(conn, last)?;
     match rows.first() {
@@ -59,7 +61,8 @@ fn check_declaration<S: Alter>(
     conn: &mut Connection<S>,
     row: &Row,
 ) -> Result<Step, CheckFault>
-    ensures { (r : order.Row) → Checks S.Store (IsNextDeclaration row.now r) conn.old conn.new (λ trees step. IsRowStep table.Declarations (IsOwnDeclaration trees) r step) result }
+    ensures { (r : order.Row)
+        → Checks S.Store (IsNextDeclaration row.now r) conn.old conn.new (λ trees step. IsRowStep table.Declarations (IsOwnDeclaration trees) r step) result }
 {
     let number = whole_in(row, 0);
     if is_declared(alloc, conn, row)? {
@@ -93,11 +96,13 @@ fn spell_stored<S: Alter>(
     conn: &mut Connection<S>,
     row: &Row,
 ) -> Result<Option<String>, CheckFault>
-    ensures { (r : order.Row) → Checks S.Store (IsNextDeclaration row.now r) conn.old conn.new (λ trees text. Spells (declares_in trees (home_of r) (design_of r) (index_name_of r)) (option_map string_bytes text)) result }
+    ensures { (r : order.Row)
+        → Checks S.Store (IsNextDeclaration row.now r) conn.old conn.new
+        (λ trees text. Spells (declares_in trees (home_of r) (design_of r) (index_name_of r)) (option_map string_bytes text)) result }
 {
     let Some(design) = id_in(alloc, row, 2)? else {
         return Ok(None);
     };
-    let history = read_document(alloc, conn, &whole_in(row, 1), &design)?;
+    let history = read_winning(alloc, conn, &whole_in(row, 1), &design)?;
     Ok(spell_index(alloc, &design, &history, blob_in(row, 3))?)
 }

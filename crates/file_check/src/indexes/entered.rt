@@ -3,10 +3,10 @@
 ghost use Rattle.std.specs.Prelude.{◌≡◌};
 ghost use Rattle.sqlite_value.specs.Order as order;
 ghost use Rattle.tables.specs.Schema.{entries_tree};
-ghost use Rattle.file_check.specs.IndexRows.{IsEntryUnder, IsNextEntry};
+ghost use Rattle.file_check.specs.inner.IndexRows.{IsEntryUnder, IsNextEntry};
 ghost use Rattle.file_check.specs.Indexes.{AreChecked, IsAnswer, IsOwnEntry, IsReadable};
 ghost use Rattle.file_check.specs.Checks.{Checks};
-ghost use Rattle.file_check.specs.Walks.{IsRowStep, IsStep};
+ghost use Rattle.file_check.specs.inner.Walks.{IsRowStep, IsStep};
 ghost use Rattle.file_check.specs.declared.finding.Table.TheVariants as table;
 
 use crate::finding::{CheckFault, Finding, Table, Wrong};
@@ -14,7 +14,7 @@ use crate::indexes::cells::{are_same, blob_in, id_in, whole_in};
 use crate::indexes::found::{find_index, make_key};
 use crate::indexes::statements::{index_rows, next_entry};
 use crate::indexes::step::{Step, next_number};
-use crate::indexes::stored::read_document;
+use crate::indexes::stored::read_winning;
 use sqlite::{Alter, Connection, Row};
 use std::alloc::Global;
 use store::show_queried;
@@ -59,7 +59,8 @@ fn check_entry<S: Alter>(
     conn: &mut Connection<S>,
     row: &Row,
 ) -> Result<Step, CheckFault>
-    ensures { (e : order.Row) → Checks S.Store (IsNextEntry row.now e) conn.old conn.new (λ trees step. IsRowStep table.Entries (IsOwnEntry trees) e step) result }
+    ensures { (e : order.Row)
+        → Checks S.Store (IsNextEntry row.now e) conn.old conn.new (λ trees step. IsRowStep table.Entries (IsOwnEntry trees) e step) result }
 {
     let number = whole_in(row, 0);
     if is_due(alloc, conn, row)? {
@@ -100,7 +101,7 @@ fn is_due_in<S: Alter>(
     let Some(id) = id_in(alloc, row, 3)? else {
         return Ok(false);
     };
-    let history = read_document(alloc, conn, &db, &id)?;
+    let history = read_winning(alloc, conn, &db, &id)?;
     let Some(seen) = show_queried(alloc, &id, &history)? else {
         return Ok(false);
     };

@@ -10,10 +10,10 @@ ghost use Rattle.index.specs.Rebuilding.{names_of};
 ghost use Rattle.index.specs.Rows.{is_declaration_of};
 ghost use Rattle.store.specs.Indexes.{index_fields_of, queried_document};
 ghost use Rattle.tree.specs.DocumentId.{is_design_id};
-ghost use Rattle.file_check.specs.IndexRows.{IsNextDocument, IsShownIndex, AreShownIndexes};
+ghost use Rattle.file_check.specs.inner.IndexRows.{IsNextDocument, IsShownIndex, AreShownIndexes};
 ghost use Rattle.file_check.specs.Indexes.{AreChecked, HasItsKey, HaveItsKeys, HaveRows, IsAnswer, IsIndexedDocument, IsReadable};
 ghost use Rattle.file_check.specs.Checks.{Checks};
-ghost use Rattle.file_check.specs.Walks.{IsRowStep, IsStep};
+ghost use Rattle.file_check.specs.inner.Walks.{IsRowStep, IsStep};
 ghost use Rattle.file_check.specs.declared.finding.Table.TheVariants as table;
 
 use crate::finding::{CheckFault, Finding, Table, Wrong};
@@ -21,7 +21,7 @@ use crate::indexes::cells::{blob_in, id_in, whole_in};
 use crate::indexes::found::{find_index, is_entered, make_key};
 use crate::indexes::statements::{index_rows_of, next_document};
 use crate::indexes::step::{Step, next_number};
-use crate::indexes::stored::read_document;
+use crate::indexes::stored::read_winning;
 use couch_json::{Json, NameMap};
 use policy::check_indexes;
 use sqlite::{Alter, Connection, Row};
@@ -54,7 +54,8 @@ fn step_document<S: Alter>(
     conn: &mut Connection<S>,
     last: &Option<i64>,
 ) -> Result<Step, CheckFault>
-    ensures { Checks S.Store IsReadable conn.old conn.new (λ trees step. IsStep table.Documents (trees docs_tree) (IsIndexedDocument trees) last.now step) result }
+    ensures { Checks S.Store IsReadable conn.old conn.new
+        (λ trees step. IsStep table.Documents (trees docs_tree) (IsIndexedDocument trees) last.now step) result }
 {
     let rows = next_document(conn, last)?;
     match rows.first() {
@@ -69,7 +70,8 @@ fn check_document<S: Alter>(
     conn: &mut Connection<S>,
     row: &Row,
 ) -> Result<Step, CheckFault>
-    ensures { (r : order.Row) → Checks S.Store (IsNextDocument row.now r) conn.old conn.new (λ trees step. IsRowStep table.Documents (IsIndexedDocument trees) r step) result }
+    ensures { (r : order.Row)
+        → Checks S.Store (IsNextDocument row.now r) conn.old conn.new (λ trees step. IsRowStep table.Documents (IsIndexedDocument trees) r step) result }
 {
     let number = whole_in(row, 0);
     if is_followed(alloc, conn, row)? {
@@ -94,7 +96,7 @@ fn is_followed<S: Alter>(
         return Ok(false);
     };
     let db = whole_in(row, 1);
-    let history = read_document(alloc, conn, &db, &id)?;
+    let history = read_winning(alloc, conn, &db, &id)?;
     if id.is_design() {
         return are_declared(alloc, conn, &db, &id, &history);
     }
@@ -110,7 +112,8 @@ fn are_declared<S: Alter>(
     history: &History,
 ) -> Result<bool, CheckFault>
     requires { is_design_id design.now ≡ true }
-    ensures { Checks S.Store IsReadable conn.old conn.new (λ trees are. IsAnswer (HaveRows db.now design.now (index_fields_of design.now history.now) trees) are) result }
+    ensures { Checks S.Store IsReadable conn.old conn.new
+        (λ trees are. IsAnswer (HaveRows db.now design.now (index_fields_of design.now history.now) trees) are) result }
 {
     let Some(body) = find_winning_body(history) else {
         return Ok(true);
@@ -132,7 +135,10 @@ fn have_rows<S: Alter>(
     design: &DocId,
     indexes: &NameMap<Json>,
 ) -> Result<bool, CheckFault>
-    ensures { Checks S.Store IsReadable conn.old conn.new (λ trees have. IsAnswer (AllByRecursion (λ name. list_any (is_declaration_of db.now design.now name) (trees decls_tree) ≡ true) (names_of (members_view indexes.now.entries))) have) result }
+    ensures { Checks S.Store IsReadable conn.old conn.new
+        (λ trees have. IsAnswer
+        (AllByRecursion (λ name. list_any (is_declaration_of db.now design.now name) (trees decls_tree) ≡ true)
+        (names_of (members_view indexes.now.entries))) have) result }
 {
     for (name, _index) in indexes.as_slice() {
         let found = find_index(alloc, conn, db, design.as_str().as_bytes(), name.as_bytes())?;
@@ -151,7 +157,8 @@ fn are_entered<S: Alter>(
     id: &DocId,
     history: &History,
 ) -> Result<bool, CheckFault>
-    ensures { Checks S.Store IsReadable conn.old conn.new (λ trees are. IsAnswer (HaveItsKeys db.now id.now (queried_document id.now history.now) trees) are) result }
+    ensures { Checks S.Store IsReadable conn.old conn.new
+        (λ trees are. IsAnswer (HaveItsKeys db.now id.now (queried_document id.now history.now) trees) are) result }
 {
     let Some(seen) = show_queried(alloc, id, history)? else {
         return Ok(true);
@@ -168,7 +175,9 @@ fn have_keys<S: Alter>(
     id: &DocId,
     seen: &Json,
 ) -> Result<bool, CheckFault>
-    ensures { (decls : List order.Row) → Checks S.Store (AreShownIndexes rows.now decls) conn.old conn.new (λ trees have. IsAnswer (AllByRecursion (HasItsKey id.now (Some (view seen.now)) trees) decls) have) result }
+    ensures { (decls : List order.Row)
+        → Checks S.Store (AreShownIndexes rows.now decls) conn.old conn.new
+        (λ trees have. IsAnswer (AllByRecursion (HasItsKey id.now (Some (view seen.now)) trees) decls) have) result }
 {
     for row in rows {
         if !has_key(alloc, conn, row, id, seen)? {
@@ -186,7 +195,8 @@ fn has_key<S: Alter>(
     id: &DocId,
     seen: &Json,
 ) -> Result<bool, CheckFault>
-    ensures { (r : order.Row) → Checks S.Store (IsShownIndex row.now r) conn.old conn.new (λ trees has. IsAnswer (HasItsKey id.now (Some (view seen.now)) trees r) has) result }
+    ensures { (r : order.Row)
+        → Checks S.Store (IsShownIndex row.now r) conn.old conn.new (λ trees has. IsAnswer (HasItsKey id.now (Some (view seen.now)) trees r) has) result }
 {
     let found = find_index(
         alloc,

@@ -7,7 +7,7 @@ ghost use Rattle.index.specs.Layout.{HasIndexRows};
 ghost use Rattle.index.specs.Meaning.{key_at};
 ghost use Rattle.index.specs.Rows.{has_entry, is_declaration_of};
 ghost use Rattle.index.specs.Shown.{declared, declared_at};
-ghost use Rattle.file_check.specs.IndexRows.{TellsFound};
+ghost use Rattle.file_check.specs.inner.IndexRows.{TellsFound};
 ghost use Rattle.file_check.specs.Checks.{Checks};
 
 use crate::finding::CheckFault;
@@ -26,7 +26,8 @@ pub(crate) fn find_index<S: Alter>(
     design: &[u8],
     name: &[u8],
 ) -> Result<Option<Declaration>, CheckFault>
-    ensures { Checks S.Store HasIndexRows conn.old conn.new (λ trees found. option_map declared found ≡ option_map declared_at (find (is_declaration_of db.now design.now name.now) (trees decls_tree))) result }
+    ensures { Checks S.Store HasIndexRows conn.old conn.new
+        (λ trees found. option_map declared found ≡ option_map declared_at (find (is_declaration_of db.now design.now name.now) (trees decls_tree))) result }
 {
     tell_found(find_decl(alloc, conn, db, design, name))
 }

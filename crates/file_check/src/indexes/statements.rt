@@ -9,8 +9,8 @@ ghost use Rattle.tables.specs.Schema.{decls_tree, docs_tree, entries_tree};
 ghost use Rattle.index.specs.Layout.{HasIndexRows};
 ghost use Rattle.index.specs.Rows.{is_at_home, is_entry_of};
 ghost use Rattle.file_check.specs.Indexes.{HasIndexCells};
-ghost use Rattle.file_check.specs.IndexRows.{next_declaration, next_document, next_entry, shown_index};
-ghost use Rattle.file_check.specs.Walks.{next_rows};
+ghost use Rattle.file_check.specs.inner.IndexRows.{next_declaration, next_document, next_entry, shown_index};
+ghost use Rattle.file_check.specs.inner.Walks.{next_rows};
 
 use sqlite::{Alter, Connection, Error, Row, params};
 use tables::statement::query;
@@ -130,7 +130,8 @@ pub(crate) fn entry_rows<S: Alter>(
     key: &[u8],
     id: &[u8],
 ) -> Result<Vec<Row>, Error>
-    ensures { Reads S.Store HasIndexRows conn.old conn.new (λ trees rows. rows.items ≡ map (λ e. column e 3 ∷ []) (filter (is_entry_of declaration.now key.now id.now) (trees entries_tree))) result }
+    ensures { Reads S.Store HasIndexRows conn.old conn.new
+        (λ trees rows. rows.items ≡ map (λ e. column e 3 ∷ []) (filter (is_entry_of declaration.now key.now id.now) (trees entries_tree))) result }
 {
     query(
         conn,
@@ -145,7 +146,8 @@ pub(crate) fn index_rows<S: Alter>(
     conn: &mut Connection<S>,
     number: &i64,
 ) -> Result<Vec<Row>, Error>
-    ensures { Reads S.Store HasIndexRows conn.old conn.new (λ trees rows. rows.items ≡ map shown_index (filter (has_number number.now) (trees decls_tree))) result }
+    ensures { Reads S.Store HasIndexRows conn.old conn.new
+        (λ trees rows. rows.items ≡ map shown_index (filter (has_number number.now) (trees decls_tree))) result }
 {
     query(
         conn,

@@ -1,7 +1,7 @@
 //! A step of a walk over the rows of a table.
 
 ghost use Rattle.std.specs.Prelude.{◌≡◌};
-ghost use Rattle.file_check.specs.Walks.{step_number};
+ghost use Rattle.file_check.specs.inner.Walks.{step_number};
 
 use crate::finding::Finding;
 

@@ -1,17 +1,21 @@
 //! The tables, each row by row.
 
-ghost use Rattle.std.specs.Prelude.{◌≡◌, ◌∷◌, [], IsPermutation, IsTrue, None};
-ghost use Rattle.std.specs.List.{AllByRecursion};
+ghost use Rattle.std.specs.Prelude.{◌≡◌, ◌↔◌, ◌∷◌, [], IsTrue, MatchOption, Some};
 ghost use Rattle.tables.specs.Calls.{Reads};
 ghost use Rattle.tables.specs.Layout.{version_row};
-ghost use Rattle.sqlite_value.specs.Order.{column};
-ghost use Rattle.tables.specs.Rows.{whole_in};
+ghost use Rattle.tables.specs.Presence.{version_in};
+ghost use Rattle.tables.specs.Rows.{number_of};
 ghost use Rattle.tables.specs.Schema.{meta_tree};
+ghost use Rattle.tables.specs.declared.meta.FileVersion.{FileVersion};
 ghost use Rattle.file_check.specs.Inspecting.{Goes, Inspects};
-ghost use Rattle.file_check.specs.Tables.{Accepts, AreSoundRows, HasCells, HasSoundDatabases, HasSoundDocuments, HasSoundLocals, HasSoundRevisions, IsBefore, IsShaped, IsSoundAt, IsSoundRow, IsThisVersion, tree_of};
+ghost use Rattle.file_check.specs.Tables.{AreTablesChecked, HasSoundDatabases, HasSoundDocuments, HasSoundLocals};
+ghost use Rattle.file_check.specs.Tables.{HasSoundRevisions, IsShaped, IsSoundRow, table_of, tree_of};
+ghost use Rattle.file_check.specs.inner.Queries.{AreRowsChecked, HasCells, IsBefore, IsThisVersion, Judges};
+ghost use Rattle.file_check.specs.inner.Walks.{IsRowStep, IsStep, next_rows};
 
 use crate::finding::{CheckFault, Finding, Table, Wrong};
-use crate::layout::cells::{count_at, whole_at};
+use crate::indexes::step::{Step, next_number};
+use crate::layout::cells::count_at;
 use crate::layout::checked::Checked;
 use crate::layout::databases::judge_database;
 use crate::layout::documents::check_document;
@@ -19,21 +23,24 @@ use crate::layout::finding_rows::whole_or_zero;
 use crate::layout::locals::check_local;
 use crate::layout::revisions::check_revision;
 use crate::layout::statements::{
-    database_rows, document_rows, local_rows, numbered_revision, revision_numbers, revision_rows,
-    version_rows,
+    next_database, next_document, next_local, next_revision, version_rows,
 };
 use sqlite::{Alter, Connection, Error, Row};
 use std::alloc::Global;
 
-/// Returns all rows of a table, in some order.
-fn all_rows<S: Alter>(conn: &mut Connection<S>, table: Checked) -> Result<Vec<Row>, Error>
-    ensures { Reads S.Store IsShaped conn.old conn.new (λ trees rows. IsPermutation (trees (tree_of table)) rows.items) result }
+/// Returns the next row of a table, if there is one: that behind the last number, or the first one.
+fn next_row<S: Alter>(
+    conn: &mut Connection<S>,
+    table: Checked,
+    last: &Option<i64>,
+) -> Result<Vec<Row>, Error>
+    ensures { Reads S.Store IsShaped conn.old conn.new (λ trees rows. rows.items ≡ next_rows (λ r. r) last.now (trees (tree_of table))) result }
 {
     match table {
-        Checked::Databases => database_rows(conn),
-        Checked::Documents => document_rows(conn),
-        Checked::Revisions => revision_rows(conn),
-        Checked::Locals => local_rows(conn),
+        Checked::Databases => next_database(conn, last),
+        Checked::Documents => next_document(conn, last),
+        Checked::Revisions => next_revision(conn, last),
+        Checked::Locals => next_local(conn, last),
     }
 }
 
@@ -44,7 +51,8 @@ fn check_row<S: Alter>(
     table: Checked,
     row: &Row,
 ) -> Result<Option<Wrong>, CheckFault>
-    ensures { Goes S.Store IsShaped conn.old conn.new (λ trees found. HasCells table row.now → IsBefore table trees → Accepts (IsSoundRow table trees row.now) found) result }
+    ensures { Goes S.Store IsShaped conn.old conn.new
+        (λ trees found. HasCells table row.now → IsBefore table trees → Judges (IsSoundRow table trees row.now) found) result }
 {
     match table {
         Checked::Databases => judge_database(alloc, row),
@@ -55,7 +63,10 @@ fn check_row<S: Alter>(
 }
 
 /// Names the row that is wrong.
-fn find_wrong(table: Checked, row: &Row, wrong: Wrong) -> Finding {
+fn find_wrong(table: Checked, row: &Row, wrong: Wrong) -> Finding
+    ensures of_table { result.table ≡ table_of table }
+    ensures numbered { result.key ≡ number_of row.now }
+{
     Finding {
         table: match table {
             Checked::Databases => Table::Databases,
@@ -63,99 +74,68 @@ fn find_wrong(table: Checked, row: &Row, wrong: Wrong) -> Finding {
             Checked::Revisions => Table::Revisions,
             Checked::Locals => Table::Locals,
         },
-        key: whole_at(row, 0).unwrap_or(0),
+        key: whole_or_zero(row, 0),
         wrong,
     }
 }
 
-/// Checks rows of a table, one after the other, up to the first that is wrong.
-fn check_rows<S: Alter>(
+/// Steps over one row of a table.
+fn step_over<S: Alter>(
     alloc: Global,
     conn: &mut Connection<S>,
     table: Checked,
-    rows: &[Row],
-) -> Result<Option<Finding>, CheckFault>
-    ensures { Goes S.Store IsShaped conn.old conn.new (λ trees found. AllByRecursion (HasCells table) rows.now → IsBefore table trees → Accepts (AllByRecursion (IsSoundRow table trees) rows.now) found) result }
+    row: &Row,
+) -> Result<Step, CheckFault>
+    ensures { Goes S.Store IsShaped conn.old conn.new
+        (λ trees step. HasCells table row.now → IsBefore table trees → IsRowStep (table_of table) (IsSoundRow table trees) row.now step) result }
 {
-    for row in rows {
-        let found = check_row(alloc, conn, table, row)?;
-        if let Some(wrong) = found {
-            return Ok(Some(find_wrong(table, row, wrong)));
-        }
+    let found = check_row(alloc, conn, table, row)?;
+    match found {
+        Some(wrong) => Ok(Step::Found(find_wrong(table, row, wrong))),
+        None => Ok(Step::Next(whole_or_zero(row, 0))),
     }
-    Ok(None)
 }
 
-/// Checks all rows of a table, which are read in one statement.
-fn check_read<S: Alter>(
+/// Checks the next row of a table.
+fn check_next_row<S: Alter>(
     alloc: Global,
     conn: &mut Connection<S>,
     table: Checked,
-) -> Result<Option<Finding>, CheckFault>
-    ensures { Inspects S.Store IsShaped conn.old conn.new (λ trees found. IsBefore table trees → Accepts (AreSoundRows table trees) found) result }
+    last: &Option<i64>,
+) -> Result<Step, CheckFault>
+    ensures { Inspects S.Store IsShaped conn.old conn.new
+        (λ trees step. IsBefore table trees → IsStep (table_of table) (trees (tree_of table)) (IsSoundRow table trees) last.now step) result }
 {
-    let rows = all_rows(conn, table)?;
-    check_rows(alloc, conn, table, &rows)
-}
-
-/// Checks the row of the revision of this number.
-fn check_numbered<S: Alter>(
-    alloc: Global,
-    conn: &mut Connection<S>,
-    number: &i64,
-) -> Result<Option<Finding>, CheckFault>
-    ensures { Inspects S.Store IsShaped conn.old conn.new (λ trees found. Accepts (IsSoundAt trees number.now) found) result }
-{
-    let rows = numbered_revision(conn, number)?;
-    check_rows(alloc, conn, Checked::Revisions, &rows)
-}
-
-/// Checks the rows of the revisions of these numbers, one after the other.
-fn check_numbers<S: Alter>(
-    alloc: Global,
-    conn: &mut Connection<S>,
-    rows: &[Row],
-) -> Result<Option<Finding>, CheckFault>
-    ensures { Goes S.Store IsShaped conn.old conn.new (λ trees found. Accepts (AllByRecursion (λ s. IsSoundAt trees (whole_in (column s 0))) rows.now) found) result }
-{
-    for row in rows {
-        let number = whole_or_zero(row, 0);
-        let found = check_numbered(alloc, conn, &number)?;
-        if let Some(wrong) = found {
-            return Ok(Some(wrong));
-        }
+    let rows = next_row(conn, table, last)?;
+    match rows.first() {
+        Some(row) => step_over(alloc, conn, table, row),
+        None => Ok(Step::Done),
     }
-    Ok(None)
 }
 
-/// Checks the rows of the revisions, each read by its number, so that one body is held at a time.
-fn check_each<S: Alter>(
-    alloc: Global,
-    conn: &mut Connection<S>,
-) -> Result<Option<Finding>, CheckFault>
-    ensures { Inspects S.Store IsShaped conn.old conn.new (λ trees found. IsBefore Checked.Revisions trees → Accepts (AreSoundRows Checked.Revisions trees) found) result }
-{
-    let rows = revision_numbers(conn)?;
-    check_numbers(alloc, conn, &rows)
-}
-
-/// Checks all rows of a table.
+/// Checks all rows of a table, one at a time.
 fn check_table<S: Alter>(
     alloc: Global,
     conn: &mut Connection<S>,
     table: Checked,
 ) -> Result<Option<Finding>, CheckFault>
-    ensures { Inspects S.Store IsShaped conn.old conn.new (λ trees found. IsBefore table trees → Accepts (AreSoundRows table trees) found) result }
+    ensures { Inspects S.Store IsShaped conn.old conn.new (λ trees found. IsBefore table trees → AreRowsChecked table trees found) result }
 {
-    match table {
-        Checked::Revisions => check_each(alloc, conn),
-        _ => check_read(alloc, conn, table),
+    let mut last = None;
+    for _row in 0..u64::MAX {
+        let step = check_next_row(alloc, conn, table, &last)?;
+        match step {
+            Step::Next(_number) => last = next_number(&step),
+            Step::Found(finding) => return Ok(Some(finding)),
+            Step::Done => return Ok(None),
+        }
     }
+    Err(CheckFault::Memory)
 }
 
 /// Tells what is wrong with the rows of `meta`, if anything is.
 fn judge_version(rows: &[Row]) -> Option<Finding>
-    ensures { Accepts (IsThisVersion rows.now) result }
+    ensures { MatchOption result (IsThisVersion rows.now) (λ f. (f.table ≡ Table.Meta) × (¬ IsThisVersion rows.now)) }
 {
     if are_this_version(rows) {
         return None;
@@ -163,13 +143,24 @@ fn judge_version(rows: &[Row]) -> Option<Finding>
     Some(Finding {
         table: Table::Meta,
         key: 0,
-        wrong: Wrong::Layout,
+        wrong: wrong_version(rows),
     })
+}
+
+/// Tells what is wrong with the rows of `meta`, where they are not those of this version: they are those of the
+/// first one, or of none.
+fn wrong_version(rows: &[Row]) -> Wrong
+    ensures { result ≡ Wrong.First ↔ version_in rows.now ≡ FileVersion.First }
+{
+    match rows {
+        [row] if whole_or_zero(row, 1) == 1 => Wrong::First,
+        _ => Wrong::Layout,
+    }
 }
 
 /// Tells whether the rows are the one row of this version.
 fn are_this_version(rows: &[Row]) -> bool
-    ensures { IsTrue result → IsThisVersion rows.now }
+    ensures { IsTrue result ↔ IsThisVersion rows.now }
 {
     match rows {
         [row] => count_at(row, 0) == Some(1) && count_at(row, 1) == Some(2),
@@ -179,7 +170,7 @@ fn are_this_version(rows: &[Row]) -> bool
 
 /// Checks the one row of the version.
 fn check_version<S: Alter>(conn: &mut Connection<S>) -> Result<Option<Finding>, CheckFault>
-    ensures { Inspects S.Store IsShaped conn.old conn.new (λ trees found. Accepts (trees meta_tree ≡ version_row 2 ∷ []) found) result }
+    ensures { Inspects S.Store IsShaped conn.old conn.new (AreTablesChecked (λ trees. trees meta_tree ≡ version_row 2 ∷ [])) result }
 {
     let rows = version_rows(conn)?;
     Ok(judge_version(&rows))
@@ -192,7 +183,8 @@ fn check_next<S: Alter>(
     found: Option<Finding>,
     table: Checked,
 ) -> Result<Option<Finding>, CheckFault>
-    ensures { Goes S.Store IsShaped conn.old conn.new (λ trees all. Accepts ((found ≡ None) × (IsBefore table trees → AreSoundRows table trees)) all) result }
+    ensures { Goes S.Store IsShaped conn.old conn.new
+        (λ trees all. MatchOption found (IsBefore table trees → AreRowsChecked table trees all) (λ f. all ≡ Some f)) result }
 {
     match found {
         Some(found) => Ok(Some(found)),
@@ -205,7 +197,7 @@ fn check_databases<S: Alter>(
     alloc: Global,
     conn: &mut Connection<S>,
 ) -> Result<Option<Finding>, CheckFault>
-    ensures { Inspects S.Store IsShaped conn.old conn.new (λ trees found. Accepts (HasSoundDatabases trees) found) result }
+    ensures { Inspects S.Store IsShaped conn.old conn.new (AreTablesChecked HasSoundDatabases) result }
 {
     let found = check_version(conn)?;
     check_next(alloc, conn, found, Checked::Databases)
@@ -216,7 +208,7 @@ fn check_revisions<S: Alter>(
     alloc: Global,
     conn: &mut Connection<S>,
 ) -> Result<Option<Finding>, CheckFault>
-    ensures { Inspects S.Store IsShaped conn.old conn.new (λ trees found. Accepts (HasSoundRevisions trees) found) result }
+    ensures { Inspects S.Store IsShaped conn.old conn.new (AreTablesChecked HasSoundRevisions) result }
 {
     let found = check_databases(alloc, conn)?;
     check_next(alloc, conn, found, Checked::Revisions)
@@ -227,7 +219,7 @@ fn check_documents<S: Alter>(
     alloc: Global,
     conn: &mut Connection<S>,
 ) -> Result<Option<Finding>, CheckFault>
-    ensures { Inspects S.Store IsShaped conn.old conn.new (λ trees found. Accepts (HasSoundDocuments trees) found) result }
+    ensures { Inspects S.Store IsShaped conn.old conn.new (AreTablesChecked HasSoundDocuments) result }
 {
     let found = check_revisions(alloc, conn)?;
     check_next(alloc, conn, found, Checked::Documents)
@@ -238,7 +230,7 @@ pub(crate) fn check_locals<S: Alter>(
     alloc: Global,
     conn: &mut Connection<S>,
 ) -> Result<Option<Finding>, CheckFault>
-    ensures { Inspects S.Store IsShaped conn.old conn.new (λ trees found. Accepts (HasSoundLocals trees) found) result }
+    ensures { Inspects S.Store IsShaped conn.old conn.new (AreTablesChecked HasSoundLocals) result }
 {
     let found = check_documents(alloc, conn)?;
     check_next(alloc, conn, found, Checked::Locals)

@@ -2,7 +2,8 @@
 
 ghost use Rattle.std.specs.Prelude.{IfOk};
 ghost use Rattle.tables.specs.Layout.{IsDatabaseRow};
-ghost use Rattle.file_check.specs.Tables.{HasDatabaseCells, Judges};
+ghost use Rattle.file_check.specs.Tables.{HasDatabaseCells};
+ghost use Rattle.file_check.specs.inner.Queries.{Judges};
 
 use crate::finding::{CheckFault, Wrong};
 use crate::layout::cells::{blob_at, count_at, text_at};

@@ -1,16 +1,18 @@
 //! The rows of the documents.
 
-ghost use Rattle.std.specs.Prelude.{◌≡◌, ◌↔◌, ℤ, int_le, IfOk, IsTrue, MatchOption, Some, is_some, true, ⊤};
+ghost use Rattle.std.specs.Prelude.{◌≡◌, ◌↔◌, ℤ, int_le, IfOk, IsTrue, MatchOption, Some, is_some, true};
 ghost use Rattle.std.specs.List.{AllByRecursion, list_all};
 ghost use Rattle.tree.specs.History.{held_of};
 ghost use Rattle.sqlite_value.specs.Order.{column};
 ghost use Rattle.tables.specs.Layout.{IsRevisionRow};
 ghost use Rattle.tables.specs.Rows.{db_of, is_gone, whole_in};
 ghost use Rattle.tables.specs.Schema.{revs_tree};
+ghost use Rattle.tables.specs.Shown.{IsShownRevision};
 ghost use Rattle.transactions.specs.Reading.{history_shown};
 ghost use Rattle.file_check.specs.Inspecting.{Inspects};
-ghost use Rattle.file_check.specs.Rows.{IsLawfulDocument, IsOwnedDocument, IsWinning};
-ghost use Rattle.file_check.specs.Tables.{Accepts, HasDocumentCells, HasHeldLeaves, IsShaped, IsSoundDocument, Judges, length_at};
+ghost use Rattle.file_check.specs.inner.Rows.{IsLawfulDocument, IsOwnedDocument, IsWinning};
+ghost use Rattle.file_check.specs.Tables.{HasDocumentCells, HasHeldLeaves, IsShaped, IsSoundDocument};
+ghost use Rattle.file_check.specs.inner.Queries.{Judges, length_at};
 
 use crate::finding::{CheckFault, Wrong};
 use crate::layout::cells::{blob_at, count_at, whole_at};
@@ -87,7 +89,7 @@ fn has_held_leaves(history: &History) -> Result<bool, CheckFault>
 
 /// Tells whether the sequence of a document is one of a database at this sequence.
 fn is_within(length: Option<i64>, row: &Row) -> bool
-    ensures { IsTrue result → (n : ℤ) × (length ≡ Some n) × (int_le (whole_in (column row.now 3)) n ≡ true) }
+    ensures { IsTrue result ↔ ((n : ℤ) × (length ≡ Some n) × (int_le (whole_in (column row.now 3)) n ≡ true)) }
 {
     match length {
         Some(length) => whole_or_zero(row, 3) <= length,
@@ -108,7 +110,7 @@ fn is_marked(row: &Row) -> bool
 
 /// Reads the history that the rows make, if they are rows of revisions.
 fn read_rows(alloc: Global, rows: Vec<Row>) -> Result<Option<History>, CheckFault>
-    ensures { IfOk result (λ found. MatchOption found ⊤ (λ history. history ≡ history_shown rows.items)) }
+    ensures { IfOk result (λ found. MatchOption found (¬ AllByRecursion IsShownRevision rows.items) (λ history. history ≡ history_shown rows.items)) }
 {
     match read_history(alloc, rows) {
         Ok(history) => Ok(Some(history)),
@@ -117,43 +119,47 @@ fn read_rows(alloc: Global, rows: Vec<Row>) -> Result<Option<History>, CheckFaul
     }
 }
 
-/// Tells whether the row of a document is that of its database, which is at this sequence, and of its history.
-fn is_owned(
+/// Tells what is wrong with the row of a document beside its database, which is at this sequence, and its history,
+/// if anything is.
+#[tactic(auto, using(crate::proofs::RowForms::owned_so, crate::proofs::RowForms::owned_nowhere, crate::proofs::RowForms::owned_not_within, crate::proofs::RowForms::owned_not_winning, crate::proofs::RowForms::owned_not_held))]
+fn judge_owned(
     alloc: Global,
     row: &Row,
     length: Option<i64>,
     history: &History,
-) -> Result<bool, CheckFault>
-    ensures { IfOk result (λ is. IsTrue is → IsOwnedDocument row.now length history.now) }
+) -> Result<Option<Wrong>, CheckFault>
+    ensures { IfOk result (Judges (IsOwnedDocument row.now length history.now)) }
 {
+    if length.is_none() {
+        return Ok(Some(Wrong::Unowned));
+    }
     if !is_within(length, row) {
-        return Ok(false);
+        return Ok(Some(Wrong::Sequence));
     }
     if !is_winning(alloc, history, bytes_at(row, 4), is_marked(row))? {
-        return Ok(false);
+        return Ok(Some(Wrong::Winner));
     }
-    has_held_leaves(history)
+    if !has_held_leaves(history)? {
+        return Ok(Some(Wrong::Missing));
+    }
+    Ok(None)
 }
 
 /// Tells what is wrong with the row of a document whose database is at this sequence, and whose revisions
 /// have these rows, if anything is.
-#[tactic(auto, using(crate::proofs::RowForms::owned_by))]
+#[tactic(auto, using(crate::proofs::RowForms::owned_by, crate::proofs::RowForms::not_owned_by))]
 fn judge_document(
     alloc: Global,
     row: &Row,
     length: Option<i64>,
     rows: Vec<Row>,
 ) -> Result<Option<Wrong>, CheckFault>
-    ensures { IfOk result (Accepts (IsOwnedDocument row.now length (history_shown rows.items))) }
+    ensures { AllByRecursion IsShownRevision rows.items → IfOk result (Judges (IsOwnedDocument row.now length (history_shown rows.items))) }
 {
     let Some(history) = read_rows(alloc, rows)? else {
         return Ok(Some(Wrong::Winner));
     };
-    if is_owned(alloc, row, length, &history)? {
-        Ok(None)
-    } else {
-        Ok(Some(Wrong::Winner))
-    }
+    judge_owned(alloc, row, length, &history)
 }
 
 /// Tells what is wrong with the row of such a document, by itself or beside them.
@@ -163,7 +169,8 @@ fn judge_whole(
     length: Option<i64>,
     rows: Vec<Row>,
 ) -> Result<Option<Wrong>, CheckFault>
-    ensures { HasDocumentCells row.now → IfOk result (Accepts (IsLawfulDocument row.now × IsOwnedDocument row.now length (history_shown rows.items))) }
+    ensures { HasDocumentCells row.now → AllByRecursion IsShownRevision rows.items
+        → IfOk result (Judges (IsLawfulDocument row.now × IsOwnedDocument row.now length (history_shown rows.items))) }
 {
     match judge_row(row) {
         Some(wrong) => Ok(Some(wrong)),
@@ -178,7 +185,9 @@ fn check_owned<S: Alter>(
     row: &Row,
     length: Option<i64>,
 ) -> Result<Option<Wrong>, CheckFault>
-    ensures { Inspects S.Store IsShaped conn.old conn.new (λ trees found. HasDocumentCells row.now → length ≡ length_at trees (db_of row.now) → AllByRecursion (IsRevisionRow trees) (trees revs_tree) → Accepts (IsSoundDocument trees row.now) found) result }
+    ensures { Inspects S.Store IsShaped conn.old conn.new
+        (λ trees found. HasDocumentCells row.now → length ≡ length_at trees (db_of row.now) → AllByRecursion (IsRevisionRow trees) (trees revs_tree)
+        → Judges (IsSoundDocument trees row.now) found) result }
 {
     let rows = history_rows(conn, &whole_or_zero(row, 1), bytes_at(row, 2))?;
     judge_whole(alloc, row, length, rows)
@@ -190,7 +199,9 @@ pub(crate) fn check_document<S: Alter>(
     conn: &mut Connection<S>,
     row: &Row,
 ) -> Result<Option<Wrong>, CheckFault>
-    ensures { Inspects S.Store IsShaped conn.old conn.new (λ trees found. HasDocumentCells row.now → AllByRecursion (IsRevisionRow trees) (trees revs_tree) → Accepts (IsSoundDocument trees row.now) found) result }
+    ensures { Inspects S.Store IsShaped conn.old conn.new
+        (λ trees found. HasDocumentCells row.now → AllByRecursion (IsRevisionRow trees) (trees revs_tree)
+        → Judges (IsSoundDocument trees row.now) found) result }
 {
     let length = find_length(conn, &whole_or_zero(row, 1))?;
     check_owned(alloc, conn, row, length)

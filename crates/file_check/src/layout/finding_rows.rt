@@ -6,12 +6,14 @@ ghost use Rattle.sqlite_value.specs.Order.{bytes, column};
 ghost use Rattle.tables.specs.Rows.{is_of, whole_in};
 ghost use Rattle.tables.specs.Schema.{docs_tree, revs_tree};
 ghost use Rattle.file_check.specs.Inspecting.{Inspects};
-ghost use Rattle.file_check.specs.Tables.{IsShaped, is_stored, length_at, length_shown};
+ghost use Rattle.file_check.specs.Tables.{IsShaped};
+ghost use Rattle.file_check.specs.inner.Queries.{is_shown_hash, is_stored, length_at, length_shown};
 
 use crate::finding::CheckFault;
-use crate::layout::statements::{length_rows, one_document_rows, stored_rows};
+use crate::layout::statements::{hash_rows, length_rows, one_document_rows, stored_rows};
 use sqlite::{Alter, Connection, Row};
 use sqlite_value::value::ValueRef;
+use std::str;
 
 /// Returns the whole number in a cell, and 0 where there is none.
 pub(crate) fn whole_or_zero(row: &Row, at: usize) -> i64
@@ -63,18 +65,64 @@ pub(crate) fn has_document<S: Alter>(
     Ok(is_any(&rows))
 }
 
-/// Tells whether a revision of a document is known.
+/// Tells whether a revision of a document is known, whose hash may be any bytes.
 pub(crate) fn has_revision<S: Alter>(
+    conn: &mut Connection<S>,
+    db: &i64,
+    id: &[u8],
+    number: &i64,
+    hash: &[u8],
+) -> Result<bool, CheckFault>
+    ensures { Inspects S.Store IsShaped conn.old conn.new
+        (λ trees found. found ≡ list_any (is_stored db.now id.now number.now hash.now) (trees revs_tree)) result }
+{
+    match str::from_utf8(hash) {
+        Ok(hash) => has_text_hash(conn, db, id, number, hash),
+        Err(_) => has_other_hash(conn, db, id, number, hash),
+    }
+}
+
+/// Tells whether a revision of a document is known, whose hash is a text.
+fn has_text_hash<S: Alter>(
     conn: &mut Connection<S>,
     db: &i64,
     id: &[u8],
     number: &i64,
     hash: &str,
 ) -> Result<bool, CheckFault>
-    ensures { Inspects S.Store IsShaped conn.old conn.new (λ trees found. found ≡ list_any (is_stored db.now id.now number.now hash.now) (trees revs_tree)) result }
+    ensures { Inspects S.Store IsShaped conn.old conn.new
+        (λ trees found. found ≡ list_any (is_stored db.now id.now number.now hash.now) (trees revs_tree)) result }
 {
     let rows = stored_rows(conn, db, id, number, hash)?;
     Ok(is_any(&rows))
+}
+
+/// Tells the same of a hash that is no text, as a damaged file may have. A statement takes only texts, so it is
+/// compared here.
+fn has_other_hash<S: Alter>(
+    conn: &mut Connection<S>,
+    db: &i64,
+    id: &[u8],
+    number: &i64,
+    hash: &[u8],
+) -> Result<bool, CheckFault>
+    ensures { Inspects S.Store IsShaped conn.old conn.new
+        (λ trees found. found ≡ list_any (is_stored db.now id.now number.now hash.now) (trees revs_tree)) result }
+{
+    let rows = hash_rows(conn, db, id, number)?;
+    Ok(is_hash_among(hash, &rows))
+}
+
+/// Tells whether one of the rows shows this hash.
+fn is_hash_among(hash: &[u8], rows: &[Row]) -> bool
+    ensures { result ≡ list_any (is_shown_hash hash.now) rows.now }
+{
+    for row in rows {
+        if bytes_at(row, 0) == hash {
+            return true;
+        }
+    }
+    false
 }
 
 /// Returns the bytes in a cell, and none where it has none.

@@ -3,8 +3,9 @@
 ghost use Rattle.std.specs.Prelude.{◌≡◌, IfOk, true};
 ghost use Rattle.tables.specs.Layout.{IsLocalRow};
 ghost use Rattle.file_check.specs.Inspecting.{Inspects};
-ghost use Rattle.file_check.specs.Rows.{IsLawfulLocal};
-ghost use Rattle.file_check.specs.Tables.{Accepts, HasLocalCells, IsShaped, Judges};
+ghost use Rattle.file_check.specs.inner.Rows.{IsLawfulLocal};
+ghost use Rattle.file_check.specs.Tables.{HasLocalCells, IsShaped};
+ghost use Rattle.file_check.specs.inner.Queries.{Judges};
 
 use crate::finding::{CheckFault, Wrong};
 use crate::layout::cells::{blob_at, count_at, text_at};
@@ -42,7 +43,7 @@ fn judge_row(alloc: Global, row: &Row) -> Result<Option<Wrong>, CheckFault>
 
 /// Tells what is wrong with the row of a local document, whose database is there or is not.
 fn judge_owned(alloc: Global, row: &Row, there: bool) -> Result<Option<Wrong>, CheckFault>
-    ensures { HasLocalCells row.now → IfOk result (Accepts ((there ≡ true) × IsLawfulLocal row.now)) }
+    ensures { HasLocalCells row.now → IfOk result (Judges ((there ≡ true) × IsLawfulLocal row.now)) }
 {
     if !there {
         return Ok(Some(Wrong::Unowned));
@@ -56,7 +57,7 @@ pub(crate) fn check_local<S: Alter>(
     conn: &mut Connection<S>,
     row: &Row,
 ) -> Result<Option<Wrong>, CheckFault>
-    ensures { Inspects S.Store IsShaped conn.old conn.new (λ trees found. HasLocalCells row.now → Accepts (IsLocalRow trees row.now) found) result }
+    ensures { Inspects S.Store IsShaped conn.old conn.new (λ trees found. HasLocalCells row.now → Judges (IsLocalRow trees row.now) found) result }
 {
     let length = find_length(conn, &whole_or_zero(row, 1))?;
     judge_owned(alloc, row, length.is_some())

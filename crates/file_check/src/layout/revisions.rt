@@ -1,16 +1,17 @@
 //! The rows of the revisions.
 
-ghost use Rattle.std.specs.Prelude.{◌≡◌, ◌≢◌, ◌⊎◌, ◌≤◌, ◌-◌, ℕ, IfOk, IsTrue, pos, true};
+ghost use Rattle.std.specs.Prelude.{◌≡◌, ◌↔◌, ◌≤◌, ◌-◌, ℕ, IfOk, IsTrue, pos};
 ghost use Rattle.std.specs.List.{list_any};
 ghost use Rattle.sqlite_value.specs.Order.{column};
-ghost use Rattle.sqlite_value.specs.declared.value.Value.TheVariants.{Int, Null, Text};
+ghost use Rattle.sqlite_value.specs.declared.value.Value.TheVariants.{Int, Null};
 ghost use Rattle.tables.specs.Layout.{IsRevisionRow};
 ghost use Rattle.tables.specs.Rows.{db_of, id_of, is_of};
 ghost use Rattle.tables.specs.Schema.{docs_tree};
 ghost use Rattle.tree.specs.Revision.{is_revision};
 ghost use Rattle.file_check.specs.Inspecting.{Inspects};
-ghost use Rattle.file_check.specs.Rows.{IsHeldSo, IsWholeRevision};
-ghost use Rattle.file_check.specs.Tables.{Accepts, HasRevisionCells, IsShaped};
+ghost use Rattle.file_check.specs.inner.Rows.{IsFollowing, IsHeldSo, IsWholeRevision, ShowsNothing};
+ghost use Rattle.file_check.specs.Tables.{HasRevisionCells, IsShaped};
+ghost use Rattle.file_check.specs.inner.Queries.{Judges};
 
 use crate::finding::{CheckFault, Wrong};
 use crate::layout::cells::{count_at, text_at};
@@ -22,34 +23,37 @@ use std::alloc::Global;
 use std::str;
 use tree::Rev;
 
-/// Tells whether a cell has no value.
+/// Tells whether a cell has no value, as one past the last has none.
+#[tactic(auto, using(crate::proofs::RowForms::past_is_null))]
 fn is_null_at(row: &Row, at: usize) -> bool
-    ensures { IsTrue result → column row.now at ≡ Null }
+    ensures { IsTrue result ↔ column row.now at ≡ Null }
 {
     match row.get_ref(at) {
         Ok(ValueRef::Null) => true,
-        _ => false,
+        Ok(_) => false,
+        Err(_) => true,
     }
 }
 
 /// Tells whether the cells of a row say that nothing is held of its revision.
 fn shows_nothing(row: &Row) -> bool
-    ensures held { IsTrue result → column row.now 6 ≡ Int (pos 0) }
-    ensures mark { IsTrue result → column row.now 7 ≡ Int (pos 0) }
-    ensures text { IsTrue result → column row.now 8 ≡ Null }
+    ensures { IsTrue result ↔ ShowsNothing row.now }
 {
     count_at(row, 6) == Some(0) && count_at(row, 7) == Some(0) && is_null_at(row, 8)
 }
 
 /// Tells what is wrong with the cells of what is held of a revision, if anything is.
-#[tactic(auto, using(crate::proofs::RowForms::held_none, crate::proofs::RowForms::held_some))]
+#[tactic(auto, using(crate::proofs::RowForms::held_none, crate::proofs::RowForms::held_some, crate::proofs::RowForms::held_uncounted, crate::proofs::RowForms::held_otherwise, crate::proofs::RowForms::held_unmarked, crate::proofs::RowForms::held_overmarked, crate::proofs::RowForms::held_untold, crate::proofs::RowForms::held_unspelled))]
 fn judge_held(alloc: Global, row: &Row) -> Result<Option<Wrong>, CheckFault>
-    ensures { IfOk result (Accepts (IsHeldSo row.now)) }
+    ensures { IfOk result (Judges (IsHeldSo row.now)) }
 {
     if shows_nothing(row) {
         return Ok(None);
     }
-    if count_at(row, 6) != Some(1) {
+    let Some(held) = count_at(row, 6) else {
+        return Ok(Some(Wrong::Cell));
+    };
+    if held != 1 {
         return Ok(Some(Wrong::Cell));
     }
     let Some(mark) = count_at(row, 7) else {
@@ -77,17 +81,10 @@ fn number_before(row: &Row) -> i64
     }
 }
 
-/// Returns the hash of the revision before that of a row, and nothing where there is none.
-fn hash_before(row: &Row) -> &str {
-    match str::from_utf8(bytes_at(row, 5)) {
-        Ok(hash) => hash,
-        Err(_) => "",
-    }
-}
-
 /// Tells whether the number and the hash make a revision.
+#[tactic(auto, using(crate::proofs::RevisionForms::no_revision))]
 fn is_lawful(number: u64, hash: &[u8]) -> bool
-    ensures { IsTrue result → IsTrue (is_revision (record { number = number; hash = hash.now })) }
+    ensures { result ≡ is_revision (record { number = number; hash = hash.now }) }
 {
     let Ok(hash) = str::from_utf8(hash) else {
         return false;
@@ -96,30 +93,26 @@ fn is_lawful(number: u64, hash: &[u8]) -> bool
 }
 
 /// Tells whether a revision of this number follows what its row says: nothing where it is the first, and
-/// else the known revision of this hash.
-fn is_following(row: &Row, number: u64, known: bool, before: &str) -> bool
-    ensures { IsTrue result → ((column row.now 5 ≡ Null) × (number ≡ 1)) ⊎ ((column row.now 5 ≡ Text before.now) × (number ≢ 1) × (known ≡ true)) }
+/// else a revision that is known.
+fn is_following(row: &Row, number: u64, known: bool) -> bool
+    ensures { IsTrue result ↔ IsFollowing row.now number known }
 {
     if is_null_at(row, 5) {
         return number == 1;
     }
-    match text_at(row, 5) {
-        Some(hash) => number != 1 && known && hash == before.as_bytes(),
-        None => false,
-    }
+    text_at(row, 5).is_some() && number != 1 && known
 }
 
 /// Tells what is wrong with the row of a revision whose document is there or is not, and whose parent is
-/// the known revision of this hash or not, if anything is.
-#[tactic(auto, using(crate::proofs::RevisionForms::revision_sound))]
+/// known or is not, if anything is.
+#[tactic(auto, using(crate::proofs::RevisionForms::revision_sound, crate::proofs::RevisionForms::revision_unowned, crate::proofs::RevisionForms::revision_uncounted, crate::proofs::RevisionForms::revision_unlawful, crate::proofs::RevisionForms::revision_unfollowing, crate::proofs::RevisionForms::revision_unheld))]
 fn judge_revision(
     alloc: Global,
     row: &Row,
     there: bool,
     known: bool,
-    before: &str,
 ) -> Result<Option<Wrong>, CheckFault>
-    ensures { HasRevisionCells row.now → IfOk result (Accepts (IsWholeRevision row.now there known before.now)) }
+    ensures { HasRevisionCells row.now → IfOk result (Judges (IsWholeRevision row.now there known)) }
 {
     if !there {
         return Ok(Some(Wrong::Unowned));
@@ -130,7 +123,7 @@ fn judge_revision(
     if !is_lawful(number, bytes_at(row, 4)) {
         return Ok(Some(Wrong::Name));
     }
-    if !is_following(row, number, known, before) {
+    if !is_following(row, number, known) {
         return Ok(Some(Wrong::Parent));
     }
     judge_held(alloc, row)
@@ -143,17 +136,18 @@ fn check_followed<S: Alter>(
     row: &Row,
     there: bool,
 ) -> Result<Option<Wrong>, CheckFault>
-    ensures { Inspects S.Store IsShaped conn.old conn.new (λ trees found. HasRevisionCells row.now → there ≡ list_any (is_of (db_of row.now) (id_of row.now)) (trees docs_tree) → Accepts (IsRevisionRow trees row.now) found) result }
+    ensures { Inspects S.Store IsShaped conn.old conn.new
+        (λ trees found. HasRevisionCells row.now → there ≡ list_any (is_of (db_of row.now) (id_of row.now)) (trees docs_tree)
+        → Judges (IsRevisionRow trees row.now) found) result }
 {
-    let before = hash_before(row);
     let known = has_revision(
         conn,
         &whole_or_zero(row, 1),
         bytes_at(row, 2),
         &number_before(row),
-        before,
+        bytes_at(row, 5),
     )?;
-    judge_revision(alloc, row, there, known, before)
+    judge_revision(alloc, row, there, known)
 }
 
 /// Checks the row of a revision.
@@ -162,7 +156,7 @@ pub(crate) fn check_revision<S: Alter>(
     conn: &mut Connection<S>,
     row: &Row,
 ) -> Result<Option<Wrong>, CheckFault>
-    ensures { Inspects S.Store IsShaped conn.old conn.new (λ trees found. HasRevisionCells row.now → Accepts (IsRevisionRow trees row.now) found) result }
+    ensures { Inspects S.Store IsShaped conn.old conn.new (λ trees found. HasRevisionCells row.now → Judges (IsRevisionRow trees row.now) found) result }
 {
     let there = has_document(conn, &whole_or_zero(row, 1), bytes_at(row, 2))?;
     check_followed(alloc, conn, row, there)

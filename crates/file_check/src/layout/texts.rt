@@ -8,7 +8,7 @@ ghost use Rattle.policy.specs.Security.{is_security};
 ghost use Rattle.sqlite_value.specs.declared.value.Value.TheVariants.{Text};
 ghost use Rattle.store.specs.Lawful.{IsBody};
 ghost use Rattle.tables.specs.Rows.{json_in};
-ghost use Rattle.file_check.specs.Texts.{IsBodyText, IsSecurityText};
+ghost use Rattle.file_check.specs.inner.Texts.{IsBodyText, IsSecurityText};
 
 use crate::finding::CheckFault;
 use couch_json::{Json, JsonFault, canon};
@@ -18,7 +18,9 @@ use std::alloc::Global;
 /// Reads the value of a canonical text, if the text is canonical.
 #[tactic(auto, using(crate::proofs::RowForms::unspelled))]
 fn read_canonical(alloc: Global, text: &[u8]) -> Result<Option<Json>, CheckFault>
-    ensures value { IfOk result (λ found. MatchOption found (text.now ≢ canonical (json_in (Text text.now))) (λ value. (view value ≡ json_in (Text text.now)) × (text.now ≡ canonical (view value)))) }
+    ensures value { IfOk result
+        (λ found. MatchOption found (text.now ≢ canonical (json_in (Text text.now)))
+        (λ value. (view value ≡ json_in (Text text.now)) × (text.now ≡ canonical (view value)))) }
     ensures lawful { IfOk result (λ found. MatchOption found ⊤ (λ value. IsLawful (view value))) }
 {
     let value = match couch_json::read(alloc, text) {

@@ -5,7 +5,7 @@ use Rattle.sqlite_value.specs.Order.{column}
 use Rattle.tables.specs.Rows.{number_of}
 use Rattle.file_check.proofs.CheckSteps.{checks_stop}
 use Rattle.file_check.proofs.WalkSteps.{row_sound, row_unsound}
-use Rattle.file_check.specs.IndexRows.{IsNextDeclaration}
+use Rattle.file_check.specs.inner.IndexRows.{IsNextDeclaration}
 use Rattle.file_check.specs.Indexes.{IsOwnDeclaration}
 use Rattle.file_check.specs.declared.finding.Table.TheVariants as table
 use Rattle.file_check.specs.declared.finding.Wrong.TheVariants as wrong

@@ -3,7 +3,7 @@ use Rattle.tables.specs.Schema.{decls_tree}
 use Rattle.file_check.proofs.WalkSteps.{begins, ends, fails, finds, gives_up, goes_on}
 use Rattle.file_check.specs.Checks.{Checks}
 use Rattle.file_check.specs.Indexes.{IsCheckable, IsOwnDeclaration}
-use Rattle.file_check.specs.Walks.{AreWalked, IsStep}
+use Rattle.file_check.specs.inner.Walks.{AreWalked, IsStep}
 use Rattle.file_check.specs.declared.finding.CheckFault.{CheckFault}
 use Rattle.file_check.specs.declared.finding.CheckFault.TheVariants as fault
 use Rattle.file_check.specs.declared.finding.Table.TheVariants as table

@@ -2,7 +2,7 @@ use Rattle.std.proofs.Common.{Ok}
 use Rattle.tables.specs.Schema.{decls_tree}
 use Rattle.file_check.specs.Checks.{Checks}
 use Rattle.file_check.specs.Indexes.{IsCheckable, IsOwnDeclaration}
-use Rattle.file_check.specs.Walks.{AreWalked}
+use Rattle.file_check.specs.inner.Walks.{AreWalked}
 use Rattle.file_check.specs.declared.finding.CheckFault.{CheckFault}
 use Rattle.file_check.proofs.indexes.declared.check_declarations.Given as goal
 

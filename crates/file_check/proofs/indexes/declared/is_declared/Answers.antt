@@ -6,7 +6,7 @@ use Rattle.index.specs.Meaning.{declares_in}
 use Rattle.index.specs.Rows.{design_of, home_of, index_name_of}
 use Rattle.file_check.proofs.CheckSteps.{checks_so, checks_stop}
 use Rattle.file_check.proofs.DeclaredRows.{spelled_none, spelled_so}
-use Rattle.file_check.specs.IndexRows.{IsNextDeclaration}
+use Rattle.file_check.specs.inner.IndexRows.{IsNextDeclaration}
 use Rattle.file_check.specs.Indexes.{IsAnswer, IsOwnDeclaration, Spells}
 use Rattle.file_check.proofs.indexes.declared.is_declared.Goals as goal
 

@@ -9,7 +9,7 @@ use Rattle.index.specs.Meaning.{declares_in}
 use Rattle.index.specs.Rows.{design_of, home_of, index_name_of}
 use Rattle.file_check.proofs.CheckSteps.{checks_none, checks_so}
 use Rattle.file_check.proofs.DeclaredRows.{spells_nothing, spells_stored, unnamed_undeclared}
-use Rattle.file_check.specs.IndexRows.{IsNextDeclaration}
+use Rattle.file_check.specs.inner.IndexRows.{IsNextDeclaration}
 use Rattle.file_check.specs.Indexes.{Spells}
 use Rattle.file_check.proofs.indexes.declared.spell_stored.Goals as goal
 

@@ -5,9 +5,9 @@ use Rattle.tables.specs.Schema.{decls_tree}
 use Rattle.tables.proofs.RowMaps.{find_found}
 use Rattle.file_check.proofs.CheckSteps.{checks_err, checks_read, checks_weaker}
 use Rattle.file_check.proofs.WalkSteps.{next_looked, next_none}
-use Rattle.file_check.specs.IndexRows.{IsNextDeclaration, next_declaration}
+use Rattle.file_check.specs.inner.IndexRows.{IsNextDeclaration, next_declaration}
 use Rattle.file_check.specs.Indexes.{HasDeclarationCells, HasIndexCells, IsCheckable, IsOwnDeclaration}
-use Rattle.file_check.specs.Walks.{is_behind}
+use Rattle.file_check.specs.inner.Walks.{is_behind}
 use Rattle.file_check.specs.declared.finding.CheckFault.TheVariants as fault
 use Rattle.file_check.specs.declared.finding.Table.TheVariants as table
 use Rattle.file_check.proofs.indexes.declared.step_declaration.Goals as goal

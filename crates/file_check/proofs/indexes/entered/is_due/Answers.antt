@@ -12,7 +12,7 @@ use Rattle.file_check.proofs.EntrySteps.{first_looked}
 use Rattle.file_check.proofs.FoundRows.{first_shown}
 use Rattle.file_check.proofs.OwnedEntries.{undeclared_entry}
 use Rattle.file_check.proofs.WalkedRows.{shown_nothing}
-use Rattle.file_check.specs.IndexRows.{IsEntryUnder, IsNextEntry, shown_index}
+use Rattle.file_check.specs.inner.IndexRows.{IsEntryUnder, IsNextEntry, shown_index}
 use Rattle.file_check.specs.Indexes.{IsAnswer, IsOwnEntry}
 use Rattle.file_check.specs.declared.finding.CheckFault.TheVariants as fault
 use Rattle.file_check.proofs.indexes.entered.is_due.Goals as goal

@@ -12,7 +12,7 @@ use Rattle.index.specs.Rows.{entry_id, fields_of, home_of, key_of}
 use Rattle.file_check.proofs.CheckSteps.{checks_so, checks_stop}
 use Rattle.file_check.proofs.EntrySteps.{checks_both, checks_lost}
 use Rattle.file_check.proofs.OwnedEntries.{fields_told, index_says, index_there, key_entry, keyless_entry, seen_told, unnamed_unseen, unseen_entry}
-use Rattle.file_check.specs.IndexRows.{IsEntryUnder}
+use Rattle.file_check.specs.inner.IndexRows.{IsEntryUnder}
 use Rattle.file_check.specs.Indexes.{IsAnswer, IsOwnEntry}
 use Rattle.file_check.specs.declared.finding.CheckFault.TheVariants as fault
 use Rattle.file_check.proofs.indexes.entered.is_due_in.Goals as goal

@@ -6,9 +6,9 @@ use Rattle.tables.proofs.RowMaps.{find_found}
 use Rattle.index.specs.Layout.{HasIndexRows, IsEntryRow}
 use Rattle.file_check.proofs.CheckSteps.{checks_err, checks_read, checks_weaker}
 use Rattle.file_check.proofs.WalkSteps.{next_looked, next_none}
-use Rattle.file_check.specs.IndexRows.{IsNextEntry, next_entry}
+use Rattle.file_check.specs.inner.IndexRows.{IsNextEntry, next_entry}
 use Rattle.file_check.specs.Indexes.{IsReadable, IsOwnEntry}
-use Rattle.file_check.specs.Walks.{is_behind}
+use Rattle.file_check.specs.inner.Walks.{is_behind}
 use Rattle.file_check.specs.declared.finding.CheckFault.TheVariants as fault
 use Rattle.file_check.specs.declared.finding.Table.TheVariants as table
 use Rattle.file_check.proofs.indexes.entered.step_entry.Goals as goal

@@ -7,7 +7,7 @@ use Rattle.store.specs.Indexes.{queried_document}
 use Rattle.tables.specs.Schema.{decls_tree}
 use Rattle.file_check.proofs.CheckSteps.{checks_read, checks_then, checks_weaker}
 use Rattle.file_check.proofs.FollowedDocuments.{home_answer, home_indexes}
-use Rattle.file_check.specs.IndexRows.{AreShownIndexes, shown_index}
+use Rattle.file_check.specs.inner.IndexRows.{AreShownIndexes, shown_index}
 use Rattle.file_check.specs.Indexes.{HaveItsKeys, IsAnswer, IsReadable}
 use Rattle.file_check.proofs.indexes.followed.are_entered.Goals as goal
 

@@ -11,7 +11,7 @@ use Rattle.std.specs.Prelude.{find, option_map}
 use Rattle.tree.proofs.Shown.{inside}
 use Rattle.file_check.proofs.CheckSteps.{checks_so, checks_then, checks_weaker}
 use Rattle.file_check.proofs.FollowedDocuments.{key_answer, keyless_answer, shown_found}
-use Rattle.file_check.specs.IndexRows.{IsShownIndex}
+use Rattle.file_check.specs.inner.IndexRows.{IsShownIndex}
 use Rattle.file_check.specs.Indexes.{HasItsKey, IsAnswer}
 use Rattle.file_check.proofs.indexes.followed.has_key.Goals as goal
 

@@ -4,7 +4,7 @@ use Rattle.couch_json.specs.View.{view}
 use Rattle.sqlite.specs.Held.{state}
 use Rattle.file_check.proofs.EachAsked.{each_ends, each_fails, each_goes_on, each_refuted}
 use Rattle.file_check.proofs.FollowedDocuments.{next_index, row_at, shown_length}
-use Rattle.file_check.specs.IndexRows.{AreShownIndexes, IsShownIndex}
+use Rattle.file_check.specs.inner.IndexRows.{AreShownIndexes, IsShownIndex}
 use Rattle.file_check.specs.Indexes.{HasItsKey, IsAnswer}
 use Rattle.file_check.proofs.indexes.followed.have_keys.Goals as goal
 

@@ -2,7 +2,7 @@ use Rattle.sqlite_value.specs.Order as order
 use Rattle.std.proofs.Common.{List, Some}
 use Rattle.couch_json.specs.View.{view}
 use Rattle.file_check.proofs.EachAsked.{SoFar}
-use Rattle.file_check.specs.IndexRows.{AreShownIndexes}
+use Rattle.file_check.specs.inner.IndexRows.{AreShownIndexes}
 use Rattle.file_check.specs.Indexes.{HasItsKey}
 use Rattle.file_check.proofs.indexes.followed.have_keys.Given as goal
 

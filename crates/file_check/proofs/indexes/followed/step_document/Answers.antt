@@ -6,9 +6,9 @@ use Rattle.tables.proofs.RowMaps.{find_found}
 use Rattle.tables.specs.Layout.{IsDocumentRow, IsStore}
 use Rattle.file_check.proofs.CheckSteps.{checks_err, checks_read, checks_weaker}
 use Rattle.file_check.proofs.WalkSteps.{next_looked, next_none}
-use Rattle.file_check.specs.IndexRows.{IsNextDocument, next_document}
+use Rattle.file_check.specs.inner.IndexRows.{IsNextDocument, next_document}
 use Rattle.file_check.specs.Indexes.{IsReadable, IsIndexedDocument}
-use Rattle.file_check.specs.Walks.{is_behind}
+use Rattle.file_check.specs.inner.Walks.{is_behind}
 use Rattle.file_check.specs.declared.finding.CheckFault.TheVariants as fault
 use Rattle.file_check.specs.declared.finding.Table.TheVariants as table
 use Rattle.file_check.proofs.indexes.followed.step_document.Goals as goal

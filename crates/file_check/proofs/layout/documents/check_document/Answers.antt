@@ -1,5 +1,5 @@
 use Rattle.tables.proofs.Common.{Err, ap, rules, ◌∙◌, ◌≡◌}
-use Rattle.file_check.specs.Tables.{length_at}
+use Rattle.file_check.specs.inner.Queries.{length_at}
 use Rattle.std.proofs.Common.{to_z-of_z, w64}
 use Rattle.file_check.proofs.Inspecting.{inspects_nothing, inspects_then}
 use Rattle.file_check.proofs.layout.documents.check_document.Goals as goal

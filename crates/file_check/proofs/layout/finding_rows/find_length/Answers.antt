@@ -1,5 +1,5 @@
 use Rattle.tables.proofs.Common.{Err, ap, rules, ◌∙◌, ◌≡◌}
-use Rattle.file_check.specs.Tables.{length_shown}
+use Rattle.file_check.specs.inner.Queries.{length_shown}
 use Rattle.file_check.proofs.Found.{lengths_found}
 use Rattle.file_check.proofs.Inspecting.{inspects_nothing, inspects_of, inspects_so}
 use Rattle.file_check.specs.declared.finding.CheckFault.TheVariants as fault

@@ -1,14 +1,11 @@
-use Rattle.tables.proofs.Common.{Err, ap, rules, ◌∙◌, ◌≡◌}
-use Rattle.std.specs.Prelude.{length, nat_lt}
-use Rattle.file_check.proofs.Found.{revisions_found}
-use Rattle.file_check.proofs.Inspecting.{inspects_nothing, inspects_of, inspects_so}
-use Rattle.file_check.specs.declared.finding.CheckFault.TheVariants as fault
+use Rattle.tables.proofs.Common.{List, list_any, revs_tree, rules, subst, ℕ, ◌≡◌}
+use Rattle.file_check.specs.Inspecting.{Inspects}
+use Rattle.file_check.specs.Tables.{IsShaped}
+use Rattle.file_check.specs.inner.Queries.{is_stored}
 use Rattle.file_check.proofs.layout.finding_rows.has_revision.Goals as goal
 
-pub returns-in_err-rows : goal.returns-in_err-rows
-returns-in_err-rows g c =
-    let is : c.from_residual.result ≡ Err (fault.Sqlite c.in_err-rows.field-0.0) = search rules in
-    inspects_nothing _ c.in_err-rows.field-0.0 _ c.from_residual.result is (inspects_of c.in_err-rows.ensures)
-
-pub returns : goal.returns
-returns g c = inspects_so _ c.in_ok-rows.rows _ (λ trees is. c.is_any.ensures ∙ ap (λ l. nat_lt 0 (length l)) c.deref.ensures.value ∙ revisions_found trees c.args.db.now c.args.id.now c.args.number.now c.args.hash.now c.in_ok-rows.rows.items is) (inspects_of c.in_ok-rows.ensures)
+pub returns-in-Ok : goal.returns-in-Ok
+returns-in-Ok g c =
+    let same : c.in-Ok.hash.now ≡ c.args.hash.now = search rules in
+    subst (λ (h : List ℕ). Inspects g.S.Store IsShaped c.args.conn.now c.has_text_hash.new.conn (λ trees found. found ≡ list_any (is_stored c.args.db.now c.args.id.now c.args.number.now h) (trees revs_tree)) c.has_text_hash.result) same
+    c.has_text_hash.ensures

@@ -2,8 +2,8 @@ use Rattle.tables.proofs.Common.{Err, ap, rules, ◌∙◌, ◌≡◌}
 use Rattle.std.specs.Prelude.{is_some}
 use Rattle.std.proofs.Common.{to_z-of_z, w64}
 use Rattle.file_check.proofs.Inspecting.{inspects_nothing, inspects_so}
-use Rattle.file_check.specs.Tables.{length_at}
-use Rattle.file_check.proofs.Owned.{accepted_local}
+use Rattle.file_check.specs.inner.Queries.{length_at}
+use Rattle.file_check.proofs.Owned.{judged_local}
 use Rattle.file_check.proofs.layout.locals.check_local.Goals as goal
 
 pub returns-in_err-length : goal.returns-in_err-length
@@ -14,4 +14,4 @@ returns-in_err-length g c =
 pub returns : goal.returns
 returns g c =
     inspects_so _ c.in_ok-length.length c.judge_owned.result
-    (λ trees is. accepted_local trees c.args.row.now c.is_some.result (c.is_some.ensures ∙ ap is_some is ∙ ap (λ n. is_some (length_at trees n)) (to_z-of_z {w = w64} {z = c.whole_or_zero.result} (record { sfits = c.whole_or_zero.type_inv }) ∙ c.whole_or_zero.ensures)) c.judge_owned.result c.judge_owned.ensures) c.in_ok-length.ensures
+    (λ trees is. judged_local trees c.args.row.now c.is_some.result (c.is_some.ensures ∙ ap is_some is ∙ ap (λ n. is_some (length_at trees n)) (to_z-of_z {w = w64} {z = c.whole_or_zero.result} (record { sfits = c.whole_or_zero.type_inv }) ∙ c.whole_or_zero.ensures)) c.judge_owned.result c.judge_owned.ensures) c.in_ok-length.ensures
