@@ -14,8 +14,9 @@ const MEMORY: &[u8] = br#"{"error":"service_unavailable","reason":"memory"}"#;
 
 /// What is asked of a node with the design document and the document a, and the reply. A document and
 /// its successor; a bulk with a refusal, a conflict, and two documents that are written; a conflict that is
-/// pushed; the index. The revisions are python's hashlib.
-const STEPS: [(&str, &str, u16, &[u8]); 5] = [
+/// pushed; the index; a page from the middle, a document before it, and the page again. The revisions are
+/// python's hashlib.
+const STEPS: [(&str, &str, u16, &[u8]); 8] = [
     (
         "PUT /db/e",
         r#"{"v":1}"#,
@@ -32,7 +33,9 @@ const STEPS: [(&str, &str, u16, &[u8]); 5] = [
         "POST /db/_bulk_docs",
         r#"{"docs":[{"_id":"b","bad":1},{"_id":"a","v":9},{"_id":"c","v":1},{"_id":"f","v":2}]}"#,
         201,
-        br#"[{"error":"unauthorized","id":"b","reason":"Refused by an update rule.","rule":"_design/d"},{"error":"conflict","id":"a","reason":"Document update conflict."},{"id":"c","ok":true,"rev":"1-16dd5aa7b10d32bc038d45f5c7f9f929"},{"id":"f","ok":true,"rev":"1-d04dee28564c4bc58752cca93ab2ecf9"}]"#,
+        b"[{\"error\":\"unauthorized\",\"id\":\"b\",\"reason\":\"Refused by an update rule.\",\"rule\":\"_design/d\"},\
+          {\"error\":\"conflict\",\"id\":\"a\",\"reason\":\"Document update conflict.\"},{\"id\":\"c\",\"ok\":true,\
+          \"rev\":\"1-16dd5aa7b10d32bc038d45f5c7f9f929\"},{\"id\":\"f\",\"ok\":true,\"rev\":\"1-d04dee28564c4bc58752cca93ab2ecf9\"}]",
     ),
     (
         "POST /db/_bulk_docs",
@@ -44,7 +47,26 @@ const STEPS: [(&str, &str, u16, &[u8]); 5] = [
         "GET /db/_design/d/_view/v",
         "",
         200,
-        br#"{"offset":0,"rows":[{"id":"c","key":[1],"value":null},{"id":"e","key":[2],"value":null},{"id":"f","key":[2],"value":null},{"id":"a","key":[7],"value":null}],"total_rows":4}"#,
+        b"{\"offset\":0,\"rows\":[{\"id\":\"c\",\"key\":[1],\"value\":null},{\"id\":\"e\",\"key\":[2],\"value\":null},{\"id\":\"f\",\
+          \"key\":[2],\"value\":null},{\"id\":\"a\",\"key\":[7],\"value\":null}],\"total_rows\":4}",
+    ),
+    (
+        "GET /db/_all_docs?startkey=%22b%22&skip=1&limit=1",
+        "",
+        200,
+        br#"{"offset":3,"rows":[{"id":"e","key":"e","value":{"rev":"2-ee473fb29866c46a0300b68bd4d6a4cc"}}],"total_rows":5}"#,
+    ),
+    (
+        "PUT /db/bb",
+        r#"{"v":1}"#,
+        201,
+        br#"{"id":"bb","ok":true,"rev":"1-16dd5aa7b10d32bc038d45f5c7f9f929"}"#,
+    ),
+    (
+        "GET /db/_all_docs?startkey=%22b%22&skip=1&limit=1",
+        "",
+        200,
+        br#"{"offset":3,"rows":[{"id":"c","key":"c","value":{"rev":"1-16dd5aa7b10d32bc038d45f5c7f9f929"}}],"total_rows":6}"#,
     ),
 ];
 

@@ -43,7 +43,9 @@ const EDITS: [(&str, &str, &str, &str); 32] = [
         LOST,
         "GET /db/_all_docs",
         "",
-        r#"200 {"offset":0,"rows":[{"id":"_design/d","key":"_design/d","value":{"rev":"1-4a114e824011d01f256fd0c1b103c330"}},{"id":"a","key":"a","value":{"rev":"1-16dd5aa7b10d32bc038d45f5c7f9f929"}}],"total_rows":2}"#,
+        "200 {\"offset\":0,\"rows\":[{\"id\":\"_design/d\",\"key\":\"_design/d\",\
+         \"value\":{\"rev\":\"1-4a114e824011d01f256fd0c1b103c330\"}},{\"id\":\"a\",\"key\":\"a\",\
+         \"value\":{\"rev\":\"1-16dd5aa7b10d32bc038d45f5c7f9f929\"}}],\"total_rows\":2}",
     ),
     (
         LOST,

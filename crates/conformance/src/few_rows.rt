@@ -101,6 +101,18 @@ fn few_rows(rt: HostRuntime) -> Result<(), Fail> {
     let pushed = thousand(alloc)?;
     let (told, mut store) = ask(alloc, store, "POST /db/_bulk_docs", pushed.as_str())?;
     assert_eq!(rt; told.as_str(), "201 []");
+    // The first page with a start makes the ranks of the ids, and takes a row of each segment.
+    let (told, made) = ask(
+        alloc,
+        store,
+        "GET /db/_all_docs?startkey=%22d%22&limit=0",
+        "",
+    )?;
+    assert_eq!(rt;
+        told.as_str(),
+        r#"200 {"offset":1,"rows":[],"total_rows":1001}"#
+    );
+    store = made;
     for (line, body, wanted) in REQUESTS {
         let before = store.fetched();
         let (told, after) = ask(alloc, store, line, body)?;

@@ -16,7 +16,10 @@ const SENT: &[u8] =
 
 /// The replies to them. The digits are python's hashlib: MD5 of `[false,0,"",{"by":2}]`.
 const REPLIES: &[u8] =
-    b"HTTP/1.1 201 Created\r\nContent-Type: application/json\r\nContent-Length: 63\r\n\r\n{\"id\":\"a\",\"ok\":true,\"rev\":\"1-2d7a80213a8d8f3c3b9505fc74d6ba3f\"}HTTP/1.1 200 OK\r\nContent-Type: application/json\r\nContent-Length: 62\r\n\r\n{\"_id\":\"a\",\"_rev\":\"1-2d7a80213a8d8f3c3b9505fc74d6ba3f\",\"by\":2}HTTP/1.1 200 OK\r\nContent-Type: application/json\r\nContent-Length: 43\r\nConnection: close\r\n\r\n{\"couchdb\":\"Welcome\",\"version\":\"3-profile\"}";
+    b"HTTP/1.1 201 Created\r\nContent-Type: application/json\r\nContent-Length: 63\r\n\r\n{\"id\":\"a\",\"ok\":true,\
+      \"rev\":\"1-2d7a80213a8d8f3c3b9505fc74d6ba3f\"}HTTP/1.1 200 OK\r\nContent-Type: application/json\r\nContent-Length: 62\r\n\r\n\
+      {\"_id\":\"a\",\"_rev\":\"1-2d7a80213a8d8f3c3b9505fc74d6ba3f\",\"by\":2}HTTP/1.1 200 OK\r\nContent-Type: application/json\r\n\
+      Content-Length: 43\r\nConnection: close\r\n\r\n{\"couchdb\":\"Welcome\",\"version\":\"3-profile\"}";
 
 /// One request that changes nothing, and its reply.
 const WELCOME: &[u8] = b"GET / HTTP/1.1\r\n\r\n";

@@ -11,7 +11,8 @@ const SENT: &str = "PUT /db/a HTTP/1.1\r\nContent-Length: 8\r\n\r\n{\"by\":2}";
 
 /// The reply to it. The digits are python's hashlib: MD5 of `[false,0,"",{"by":2}]`.
 const REPLY: &str =
-    "HTTP/1.1 201 Created\r\nContent-Type: application/json\r\nContent-Length: 63\r\n\r\n{\"id\":\"a\",\"ok\":true,\"rev\":\"1-2d7a80213a8d8f3c3b9505fc74d6ba3f\"}";
+    "HTTP/1.1 201 Created\r\nContent-Type: application/json\r\nContent-Length: 63\r\n\r\n{\"id\":\"a\",\"ok\":true,\
+     \"rev\":\"1-2d7a80213a8d8f3c3b9505fc74d6ba3f\"}";
 
 /// Where the first read fails, nothing goes out.
 #[test]

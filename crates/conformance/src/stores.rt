@@ -12,7 +12,9 @@ const REQUESTS: [(&str, &str, &str); 16] = [
     (
         "POST /db/_bulk_docs",
         r#"{"docs":[{"_id":"b","bad":1},{"_id":"a","v":9},{"_id":"c","v":1},{"_id":"d","v":2}]}"#,
-        r#"201 [{"error":"forbidden","id":"b","reason":"Refused by an update rule.","rule":"_design/d"},{"error":"conflict","id":"a","reason":"Document update conflict."},{"id":"c","ok":true,"rev":"1-16dd5aa7b10d32bc038d45f5c7f9f929"},{"id":"d","ok":true,"rev":"1-d04dee28564c4bc58752cca93ab2ecf9"}]"#,
+        "201 [{\"error\":\"forbidden\",\"id\":\"b\",\"reason\":\"Refused by an update rule.\",\"rule\":\"_design/d\"},\
+         {\"error\":\"conflict\",\"id\":\"a\",\"reason\":\"Document update conflict.\"},{\"id\":\"c\",\"ok\":true,\
+         \"rev\":\"1-16dd5aa7b10d32bc038d45f5c7f9f929\"},{\"id\":\"d\",\"ok\":true,\"rev\":\"1-d04dee28564c4bc58752cca93ab2ecf9\"}]",
     ),
     (
         "POST /db/_bulk_docs",
@@ -59,12 +61,15 @@ const REQUESTS: [(&str, &str, &str); 16] = [
     (
         "GET /db/_changes?style=all_docs",
         "",
-        r#"200 {"last_seq":2,"results":[{"changes":[{"rev":"1-4a114e824011d01f256fd0c1b103c330"}],"id":"_design/d","seq":1},{"changes":[{"rev":"1-16dd5aa7b10d32bc038d45f5c7f9f929"}],"id":"a","seq":2}]}"#,
+        "200 {\"last_seq\":2,\"results\":[{\"changes\":[{\"rev\":\"1-4a114e824011d01f256fd0c1b103c330\"}],\"id\":\"_design/d\",\
+         \"seq\":1},{\"changes\":[{\"rev\":\"1-16dd5aa7b10d32bc038d45f5c7f9f929\"}],\"id\":\"a\",\"seq\":2}]}",
     ),
     (
         "GET /db/_all_docs",
         "",
-        r#"200 {"offset":0,"rows":[{"id":"_design/d","key":"_design/d","value":{"rev":"1-4a114e824011d01f256fd0c1b103c330"}},{"id":"a","key":"a","value":{"rev":"1-16dd5aa7b10d32bc038d45f5c7f9f929"}}],"total_rows":2}"#,
+        "200 {\"offset\":0,\"rows\":[{\"id\":\"_design/d\",\"key\":\"_design/d\",\
+         \"value\":{\"rev\":\"1-4a114e824011d01f256fd0c1b103c330\"}},{\"id\":\"a\",\"key\":\"a\",\
+         \"value\":{\"rev\":\"1-16dd5aa7b10d32bc038d45f5c7f9f929\"}}],\"total_rows\":2}",
     ),
     (
         "GET /db/_design/d/_view/v",

@@ -52,7 +52,9 @@ pub const BULK: [(&str, &str, &str, u16, &[u8]); 3] = [
         "POST /db/_bulk_docs",
         r#"{"docs":[{"_id":"a","ok":true},{"_id":"b"},{"_id":"c","_rev":"1-zz","ok":true},{"_id":"a","ok":true}]}"#,
         201,
-        br#"[{"id":"a","ok":true,"rev":"1-45896966375c706497b47bb25026742d"},{"error":"forbidden","id":"b","reason":"Refused by an update rule.","rule":"_design/k"},{"error":"conflict","id":"c","reason":"Document update conflict."},{"error":"conflict","id":"a","reason":"Document update conflict."}]"#,
+        b"[{\"id\":\"a\",\"ok\":true,\"rev\":\"1-45896966375c706497b47bb25026742d\"},{\"error\":\"forbidden\",\"id\":\"b\",\
+          \"reason\":\"Refused by an update rule.\",\"rule\":\"_design/k\"},{\"error\":\"conflict\",\"id\":\"c\",\
+          \"reason\":\"Document update conflict.\"},{\"error\":\"conflict\",\"id\":\"a\",\"reason\":\"Document update conflict.\"}]",
     ),
     (
         NOBODY,
