@@ -14,7 +14,8 @@ sys.path.append(f"{TOP}/tools")
 from lib.server import ADMIN, SECRET, message, proxy_lines
 
 with open(f"{TOP}/crates/tables/src/create.rt", encoding="utf-8") as code:
-    TABLES = re.findall(r'"(CREATE TABLE (?:dbs|docs|revs) [^"]*)"', code.read())
+    # A text may go on in the next line, behind a backslash.
+    TABLES = [re.sub(r"\\\n\s*", "", text) for text in re.findall(r'"(CREATE TABLE (?:dbs|docs|revs) [^"]*)"', code.read())]
 
 
 class Served:

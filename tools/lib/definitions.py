@@ -67,12 +67,14 @@ class Book:
         names, comment, current, is_head = uses_in(lines), [], None, True
         self.heads[path] = lines[0].removeprefix("-- ")
         for line in lines:
-            # What stands in a module with parameters is two blanks further in.
+            # What stands in a module with parameters, or is defined together, is two blanks further in.
             text = line.removeprefix("  ") if is_inner else line
             if not text.strip():
                 comment = []
             elif text.startswith("module "):
                 is_inner, comment = True, []
+            elif re.fullmatch(r"(?:abbrev )?mutual", text):
+                is_inner = True
             elif text.lstrip().startswith("--"):
                 comment = [] if is_head else comment + [text.lstrip().removeprefix("--").strip()]
             elif USE.match(text.strip()) or text.startswith("pub mod "):
@@ -167,7 +169,7 @@ def clauses_of(top, crate, path, wanted):
                 inside = re.sub(r"<.*?>", "", line).split(" for ")[-1].split()[-2 if line.endswith("{") else -1].rstrip(":")
             elif line.startswith("}"):
                 inside = None
-            if re.match(rf"\s*(?:pub )?fn {name}\b", line) and owner.rpartition("::")[2] in ("laws", "", inside):
+            if re.match(rf"\s*(?:pub )?fn {name}\b", line) and (owner in ("", inside) or owner.endswith("laws")):
                 blocks = blocks_at(lines, number)
                 if all(one in blocks for one in wanted):
                     return Clauses(os.path.relpath(file, top), ["\n".join(blocks[one]) for one in wanted], uses_in(lines))

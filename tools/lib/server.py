@@ -232,6 +232,12 @@ class Server:
         compare(f"{what}: how it ended", (0, []), (status, said))
 
 
+def finds_sound(options, what, file):
+    """Compares what `couchd check` says of a file that a server or a pass left, and that nobody has open."""
+    ran = subprocess.run([*shlex.split(options.program), "check", "--file", file], stdin=subprocess.DEVNULL, capture_output=True, timeout=600)
+    compare(f"{what}: the check of the file", (0, "sound"), (ran.returncode, ran.stdout.decode().partition(":")[0]))
+
+
 # ---- nginx
 
 

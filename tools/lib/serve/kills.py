@@ -6,7 +6,7 @@ import time
 
 from lib.checks import compare
 from lib.serve.connections import AT_ONCE, start_all
-from lib.server import Server, asks, connected, reply, request, rest_of, status_of
+from lib.server import Server, asks, connected, finds_sound, reply, request, rest_of, status_of
 
 
 def check_killed(options, folder):
@@ -28,6 +28,7 @@ def check_killed(options, folder):
             except OSError:
                 pass
         server.process.wait(60)
+        finds_sound(options, f"killed at moment {moment}", file)
         server = Server(options, file, 1)
         with connected(server.port) as made:
             made.sendall(request("GET", "/db/_all_docs", more=["Connection: close"]))
@@ -66,6 +67,7 @@ def check_killed_among_writers(options, folder):
         server.process.wait(60)
         for thread in threads:
             thread.join(60)
+        finds_sound(options, f"killed among writers, {moment}", file)
         server = Server(options, file, 1)
         with connected(server.port) as made:
             made.sendall(request("GET", "/db/_all_docs", more=["Connection: close"]))
