@@ -1,4 +1,5 @@
 """A server on a file, and SQLite's C library over the same tables, for the measurements of this folder."""
+import atexit
 import hashlib
 import json
 import os
@@ -27,6 +28,8 @@ class Served:
             if number is not None:
                 command += [word, str(number)]
         self.process = subprocess.Popen(command, stdout=subprocess.PIPE)
+        # A bench that fails leaves no server behind, which would hold its output open.
+        atexit.register(self.process.kill)
         line = self.process.stdout.readline().decode()
         self.port = int(re.fullmatch(r"listening 127\.0\.0\.1:(\d+)\n", line).group(1))
         self.connect()
