@@ -7,7 +7,7 @@ use Rattle.std.specs.Str.Parse.{ParsesUnsigned, digits_value}
 use Rattle.std.proofs.lemmas.Str.Parse.{parse_gives, digits_value_short}
 use Rattle.tree.proofs.RevisionText.{decimals}
 use Rattle.couch_json.specs.Range.{greatest_count}
-use Rattle.api.specs.Listings.{count_in, is_count_text}
+use Rattle.api.specs.Listings.{count_in_text, is_count_text}
 
 are_digits : (bs : List ℕ) → list_all is_ascii_digit bs ≡ all_ascii_digits bs
 are_digits [] = refl
@@ -28,7 +28,7 @@ short_of bs e =
     let l = both (leb 1 (length bs)) (leb (length bs) 19) k.0 in
     (sym (are_digits bs) ∙ k.1, (leb-true 1 (length bs) l.0, leb-true (length bs) 19 l.1))
 
-pub count_parse : {E : Type 0} (bs : List ℕ) (r : Result ℕ E) → ParsesUnsigned 64 10 bs r → is_count_text bs ≡ true → count_in bs ≡ at_most_greatest r
+pub count_parse : {E : Type 0} (bs : List ℕ) (r : Result ℕ E) → ParsesUnsigned 64 10 bs r → is_count_text bs ≡ true → count_in_text bs ≡ at_most_greatest r
 count_parse {E} bs r h is =
     let s = short_of bs is in
     let low : digits_value 10 bs < 10 ^ 19 = digits_value_short decimals bs 19 s.0 s.1.1 in

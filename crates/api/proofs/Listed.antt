@@ -4,7 +4,7 @@ use Rattle.tree.specs.Revision.{Revision}
 use Rattle.couch_json.specs.Value.{Value, Members, member}
 use Rattle.read.specs.Differences.{RevisionsOf}
 use Rattle.api.specs.Listings.{revisions_of_members, with_revisions_of}
-use Rattle.api.specs.Queries.{are_named, asked_of_document, flag_in, given_at, query_by, revisions_listed, sole_value}
+use Rattle.api.specs.Queries.{parameters_are_named, asked_of_document, flag_in, given_at, document_query_by, revisions_listed, sole_value}
 
 -- the next revision joins those before it
 pub revisions_go_on : (before : List Revision) (r : Revision) (rest : Option (List Revision))
@@ -29,7 +29,7 @@ list_taken before after left ms name v revs total first listed more so_far =
 
 -- the parameters have no other names than the three, and these values
 pub asked_by_values : (parameters : List (List ℕ × List ℕ)) (rev open_revs : Option (List ℕ)) (revs : Option Bool)
-    → are_named (codes "rev" ∷ codes "revs" ∷ codes "open_revs" ∷ []) parameters ≡ true
+    → parameters_are_named (codes "rev" ∷ codes "revs" ∷ codes "open_revs" ∷ []) parameters ≡ true
     → sole_value (codes "rev") parameters ≡ Some rev → sole_value (codes "open_revs") parameters ≡ Some open_revs
-    → given_at flag_in (codes "revs") parameters ≡ Some revs → asked_of_document parameters ≡ query_by rev open_revs revs
+    → given_at flag_in (codes "revs") parameters ≡ Some revs → asked_of_document parameters ≡ document_query_by rev open_revs revs
 asked_by_values parameters rev open_revs revs named is_rev is_open is_revs = rw named (rw is_rev (rw is_open (rw is_revs refl)))

@@ -39,8 +39,8 @@ abbrev pub denial : Identity → Rule → Refusal
 denial caller rule = denied_to caller.name rule
 
 -- the method of this name, where some page has it
-abbrev pub method_of : List ℕ → Option RequestMethod
-method_of method =
+abbrev pub method_named : List ℕ → Option RequestMethod
+method_named method =
     if bytes_eq method (codes "GET") then Some Get else (
     if bytes_eq method (codes "PUT") then Some Put else (
     if bytes_eq method (codes "POST") then Some Post else (
@@ -66,5 +66,5 @@ value_or_refusal (Ok v) = Ok v
 value_or_refusal (Err fault) = Err Syntax
 
 -- the value of the body
-abbrev pub body_of : Message → Result Value Refusal
-body_of m = value_or_refusal (reading m.body)
+abbrev pub json_body : Message → Result Value Refusal
+json_body m = value_or_refusal (reading m.body)

@@ -4,8 +4,9 @@ use Rattle.std.specs.Prelude.{Result, Bool, true, if◌then◌else◌, List, [],
 use Rattle.couch_json.specs.Parts.{has_only, items_in, truth_in}
 use Rattle.couch_json.specs.Value.{Value, Items, no_items, item, member_of}
 use Rattle.couch_http.specs.Message.{Message}
-use Rattle.api.specs.Asking.{body_of}
-use Rattle.api.specs.Refusals.{next, there_or}
+use Rattle.api.specs.Asking.{json_body}
+use Rattle.api.specs.Queries.{read_then}
+use Rattle.api.specs.Refusals.{and_then, there_or}
 use Rattle.api.specs.declared.refusal.Refusal.{Refusal}
 use Rattle.api.specs.declared.refusal.Refusal.TheVariants.{Body}
 
@@ -15,34 +16,32 @@ pub record Bulk : Type 0 where
   pub documents : List Value
 
 -- items as a list
-abbrev pub elements : Items → List Value
-elements no_items = []
-elements (item v vs) = v ∷ elements vs
+abbrev pub elements_of_items : Items → List Value
+elements_of_items no_items = []
+elements_of_items (item v vs) = v ∷ elements_of_items vs
 
 -- `docs`, which has to be a list
-abbrev pub documents_of : Value → Option (List Value)
-documents_of v = option_map (λ vs. elements vs) (items_in v)
+abbrev pub bulk_documents_of : Value → Option (List Value)
+bulk_documents_of v = option_map (λ vs. elements_of_items vs) (items_in v)
 
 -- the documents of a bulk
-abbrev pub documents_in : Option Value → Option (List Value)
-documents_in v = option_and_then (λ docs. documents_of docs) v
+abbrev pub bulk_documents_in : Option Value → Option (List Value)
+bulk_documents_in v = option_and_then (λ docs. bulk_documents_of docs) v
 
 -- `new_edits`, true or false, and true where it is not given
 abbrev pub new_edits_in : Option Value → Option Bool
 new_edits_in None = Some true
 new_edits_in (Some v) = truth_in v
 
--- a bulk by its parts, where both are of their form
-abbrev pub bulk_by : Option Bool → Option (List Value) → Option Bulk
-bulk_by None documents = None
-bulk_by (Some new_edits) None = None
-bulk_by (Some new_edits) (Some documents) = Some (record { new_edits = new_edits; documents = documents })
-
 -- what a body asks for, where it is an object of this shape, with no other members
 abbrev pub bulk_in : Value → Option Bulk
 bulk_in v =
-    if has_only (codes "docs" ∷ codes "new_edits" ∷ []) v then bulk_by (new_edits_in (member_of v (codes "new_edits"))) (documents_in (member_of v (codes "docs"))) else None
+    if has_only (codes "docs" ∷ codes "new_edits" ∷ []) v
+    then read_then (new_edits_in (member_of v (codes "new_edits"))) (λ new_edits.
+    read_then (bulk_documents_in (member_of v (codes "docs"))) (λ documents.
+    Some (record { new_edits = new_edits; documents = documents })))
+    else None
 
 -- what the body of a request asks for, or a refusal
 abbrev pub bulk_of : Message → Result Bulk Refusal
-bulk_of m = next (body_of m) (λ value. there_or Body (bulk_in value))
+bulk_of m = and_then (json_body m) (λ value. there_or Body (bulk_in value))

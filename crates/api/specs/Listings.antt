@@ -1,19 +1,18 @@
 -- What the queries of a listing by id and of the changes ask for, and which revisions a request asks about.
 -- CouchDB manual, api/database/bulk-api (`startkey`, `endkey`, `inclusive_end`, `descending`, `skip`, `limit`), api/database/changes (`since`, `limit`, `style`) and api/database/misc (`_revs_diff`); that keys are JSON strings, and the greatest number, are this server's own.
-use Rattle.std.specs.Prelude.{ℕ, Bool, true, false, ◌&&◌, if◌then◌else◌, List, [], ◌∷◌, length, nat_le, Option, Some, None, option_map, option_and_then, Result, Ok, Err, bytes_eq, codes, unwrap_or}
+use Rattle.std.specs.Prelude.{ℕ, Bool, true, false, ◌&&◌, if◌then◌else◌, List, [], ◌∷◌, length, nat_le, Option, Some, None, option_map, option_and_then, bytes_eq, codes, unwrap_or}
 use Rattle.std.specs.Char.{is_ascii_digit}
 use Rattle.std.specs.List.{list_all}
 use Rattle.std.specs.Str.Parse.{digits_value}
 use Rattle.couch_json.specs.Range.{greatest_count}
 use Rattle.couch_json.specs.Parts.{members_in, text_in}
-use Rattle.couch_json.specs.Reading.{reading}
+use Rattle.couch_json.specs.Reading.{reading, value_read}
 use Rattle.couch_json.specs.Value.{Value, Members, no_members, member}
-use Rattle.couch_json.specs.declared.fault.JsonFault.{JsonFault}
 use Rattle.tree.specs.Revision.{Revision}
 use Rattle.store.specs.declared.listing.IdRange.{IdRange}
 use Rattle.store.specs.declared.listing.SeqRange.{SeqRange}
 use Rattle.read.specs.Differences.{RevisionsOf}
-use Rattle.api.specs.Queries.{are_named, flag_in, given_at, parameters_in, revisions_listed}
+use Rattle.api.specs.Queries.{parameters_are_named, flag_in, given_at, parameters_in, read_then, revisions_listed}
 
 -- ---- values of parameters
 
@@ -22,17 +21,12 @@ abbrev pub is_count_text : List ℕ → Bool
 is_count_text text = nat_le 1 (length text) && nat_le (length text) 19 && list_all is_ascii_digit text
 
 -- the number that they write, where it is not too great
-abbrev pub count_in : List ℕ → Option ℕ
-count_in text = if is_count_text text && nat_le (digits_value 10 text) greatest_count then Some (digits_value 10 text) else None
-
--- a text that was read
-abbrev pub text_read : Result Value JsonFault → Option (List ℕ)
-text_read (Ok v) = text_in v
-text_read (Err fault) = None
+abbrev pub count_in_text : List ℕ → Option ℕ
+count_in_text text = if is_count_text text && nat_le (digits_value 10 text) greatest_count then Some (digits_value 10 text) else None
 
 -- a key is a JSON string
 abbrev pub key_in : List ℕ → Option (List ℕ)
-key_in value = text_read (reading value)
+key_in value = option_and_then (λ v. text_in v) (value_read (reading value))
 
 -- all leaves of a document, or its winner alone
 abbrev pub style_in : List ℕ → Option Bool
@@ -40,35 +34,34 @@ style_in value = if bytes_eq value (codes "all_docs") then Some true else (if by
 
 -- ---- a listing by id
 
--- the part of a list by id, by its parameters
-abbrev pub range_by : Option (List ℕ) → Option (List ℕ) → Option Bool → Option Bool → Option ℕ → Option ℕ → IdRange
-range_by start end inclusive_end descending skip limit = record {
-  start = start;
-  end = end;
-  inclusive_end = unwrap_or inclusive_end true;
-  descending = unwrap_or descending false;
-  skip = unwrap_or skip 0;
-  limit = limit;
-  counted = false;
-}
-
 -- the names of its parameters; those of a view are a list of its own
 abbrev pub listing_names : List (List ℕ)
 listing_names = codes "startkey" ∷ codes "endkey" ∷ codes "inclusive_end" ∷ codes "descending" ∷ codes "skip" ∷ codes "limit" ∷ []
 
--- the range from these keys, in a direction
+-- the range from these keys, by the other parameters
 abbrev pub range_from : List (List ℕ × List ℕ) → Option (List ℕ) → Option (List ℕ) → Option IdRange
 range_from ps start end =
-    option_and_then (λ inclusive_end. option_and_then (λ descending. option_and_then (λ skip. option_map (λ limit.
-    range_by start end inclusive_end descending skip limit)
-    (given_at count_in (codes "limit") ps)) (given_at count_in (codes "skip") ps))
-    (given_at flag_in (codes "descending") ps)) (given_at flag_in (codes "inclusive_end") ps)
+    read_then (given_at flag_in (codes "inclusive_end") ps) (λ inclusive_end.
+    read_then (given_at flag_in (codes "descending") ps) (λ descending.
+    read_then (given_at count_in_text (codes "skip") ps) (λ skip.
+    read_then (given_at count_in_text (codes "limit") ps) (λ limit.
+    Some (record {
+      start = start;
+      end = end;
+      inclusive_end = unwrap_or inclusive_end true;
+      descending = unwrap_or descending false;
+      skip = unwrap_or skip 0;
+      limit = limit;
+      counted = false;
+    })))))
 
--- the part of a list by id that parameters request, where each is known and of its form
+-- the part of a list by id that parameters request, where each is known and of its form: `startkey="a"&limit=2` requests 2 rows from "a" on
 abbrev pub range_asked : List (List ℕ × List ℕ) → Option IdRange
 range_asked ps =
-    if are_named listing_names ps
-    then option_and_then (λ start. option_and_then (λ end. range_from ps start end) (given_at key_in (codes "endkey") ps)) (given_at key_in (codes "startkey") ps)
+    if parameters_are_named listing_names ps
+    then read_then (given_at key_in (codes "startkey") ps) (λ start.
+    read_then (given_at key_in (codes "endkey") ps) (λ end.
+    range_from ps start end))
     else None
 
 -- the rows that a listing's reader asks for, or nothing where the query is a bad one
@@ -77,11 +70,6 @@ listing_query query = range_asked (parameters_in query)
 
 -- ---- changes
 
--- the part of the changes, by its parameters
-abbrev pub changes_by : Option ℕ → Option ℕ → Option Bool → SeqRange
-changes_by since limit all_leaves =
-    record { since = unwrap_or since 0; limit = limit; all_leaves = unwrap_or all_leaves false; counted = false }
-
 -- the parameters that `_changes` has
 abbrev pub change_names : List (List ℕ)
 change_names = codes "since" ∷ codes "limit" ∷ codes "style" ∷ []
@@ -89,9 +77,11 @@ change_names = codes "since" ∷ codes "limit" ∷ codes "style" ∷ []
 -- the part of the changes that parameters request, where each is known and of its form
 abbrev pub changes_asked : List (List ℕ × List ℕ) → Option SeqRange
 changes_asked ps =
-    if are_named change_names ps
-    then option_and_then (λ since. option_and_then (λ limit. option_map (λ style. changes_by since limit style)
-    (given_at style_in (codes "style") ps)) (given_at count_in (codes "limit") ps)) (given_at count_in (codes "since") ps)
+    if parameters_are_named change_names ps
+    then read_then (given_at count_in_text (codes "since") ps) (λ since.
+    read_then (given_at count_in_text (codes "limit") ps) (λ limit.
+    read_then (given_at style_in (codes "style") ps) (λ style.
+    Some (record { since = unwrap_or since 0; limit = limit; all_leaves = unwrap_or style false; counted = false }))))
     else None
 
 -- the changes that a reader asks for, or nothing where the query is a bad one
@@ -110,5 +100,5 @@ revisions_of_members no_members = Some []
 revisions_of_members (member name v ms) = with_revisions_of name (revisions_listed v) (revisions_of_members ms)
 
 -- the revisions that a body asks about: an object from texts to lists of revisions
-abbrev pub differences_in : Value → Option (List RevisionsOf)
-differences_in v = option_and_then (λ ms. revisions_of_members ms) (members_in v)
+abbrev pub requested_differences : Value → Option (List RevisionsOf)
+requested_differences v = option_and_then (λ ms. revisions_of_members ms) (members_in v)

@@ -40,8 +40,8 @@ abbrev pub database_name_in : List ℕ → Option (List ℕ)
 database_name_in path = option_and_then (λ text. name_if text) (decoded_at 1 path)
 
 -- a text that is the id of a document
-abbrev pub id_if : List ℕ → Option (List ℕ)
-id_if text = text_if (is_document_id text) text
+abbrev pub id_in_path : List ℕ → Option (List ℕ)
+id_in_path text = text_if (is_document_id text) text
 
 -- two texts with a slash between them, as in the id of a design document or of a local one
 abbrev pub joined_by_slash : Option (List ℕ) → Option (List ℕ) → Option (List ℕ)
@@ -57,12 +57,12 @@ abbrev pub id_text_in : List ℕ → Option (List ℕ)
 id_text_in path = id_text_by (part_at 3 path) path
 
 -- the name of the index that the path of a view ends with, where it is UTF-8
-abbrev pub index_name_in : List ℕ → Option (List ℕ)
-index_name_in path = decoded_at 5 path
+abbrev pub index_name_in_path : List ℕ → Option (List ℕ)
+index_name_in_path path = decoded_at 5 path
 
 -- the id that a path names behind the database, where it is one
 abbrev pub named_id_in : List ℕ → Option (List ℕ)
-named_id_in path = option_and_then (λ text. id_if text) (id_text_in path)
+named_id_in path = option_and_then (λ text. id_in_path text) (id_text_in path)
 
 -- the id of the document that a path leads to, where it is one, and no local one
 abbrev pub document_id_in : List ℕ → Option (List ℕ)

@@ -1,25 +1,19 @@
 -- What the query of a view asks for: a range of the keys of an index.
 -- CouchDB manual, api/ddoc/views (`startkey`, `endkey`, `inclusive_end`, `descending`, `skip`, `limit`) and ddocs/views/collation (a range of keys).
-use Rattle.std.specs.Prelude.{Bool, false, ℕ, if◌then◌else◌, List, [], ◌∷◌, Option, Some, None, option_map, option_and_then, Result, Ok, Err, codes}
-use Rattle.couch_json.specs.Reading.{reading}
+use Rattle.std.specs.Prelude.{Bool, false, ℕ, if◌then◌else◌, List, [], ◌∷◌, Option, Some, None, option_map, codes}
+use Rattle.couch_json.specs.Reading.{reading, value_read}
 use Rattle.couch_json.specs.Value.{Value}
-use Rattle.couch_json.specs.declared.fault.JsonFault.{JsonFault}
 use Rattle.store.specs.declared.index_page.CutSide.{CutSide}
 use Rattle.store.specs.declared.index_page.CutSide.TheVariants.{Before, After}
 use Rattle.store.specs.declared.index_page.KeyCut.{KeyCut}
 use Rattle.store.specs.declared.index_page.KeyRange.{KeyRange}
 use Rattle.store.specs.declared.listing.IdRange.{IdRange}
 use Rattle.api.specs.Listings.{range_from}
-use Rattle.api.specs.Queries.{are_named, given_at, parameters_in}
-
--- the value that was read, if it could be
-abbrev pub value_read : Result Value JsonFault → Option Value
-value_read (Ok v) = Some v
-value_read (Err fault) = None
+use Rattle.api.specs.Queries.{parameters_are_named, given_at, parameters_in, read_then}
 
 -- a key is any JSON value
-abbrev pub json_in : List ℕ → Option Value
-json_in value = value_read (reading value)
+abbrev pub json_in_text : List ℕ → Option Value
+json_in_text value = value_read (reading value)
 
 -- a cut at a key, where there is one
 abbrev pub cut_at : CutSide → Option Value → Option KeyCut
@@ -45,11 +39,15 @@ keys_between start end range = record {
 abbrev pub view_names : List (List ℕ)
 view_names = codes "startkey" ∷ codes "endkey" ∷ codes "inclusive_end" ∷ codes "descending" ∷ codes "skip" ∷ codes "limit" ∷ []
 
--- the range that they ask for: direction, `skip` and `limit` are read as those of a listing by id, and a key is any value
+-- The range that they ask for: direction, `skip` and `limit` are read as those of a listing by id, and a key is any value.
+-- `descending=true&startkey=3` requests the rows from the key 3 down.
 abbrev pub keys_asked : List (List ℕ × List ℕ) → Option KeyRange
 keys_asked ps =
-    if are_named view_names ps
-    then option_and_then (λ start. option_and_then (λ end. option_map (keys_between start end) (range_from ps None None)) (given_at json_in (codes "endkey") ps)) (given_at json_in (codes "startkey") ps)
+    if parameters_are_named view_names ps
+    then read_then (given_at json_in_text (codes "startkey") ps) (λ start.
+    read_then (given_at json_in_text (codes "endkey") ps) (λ end.
+    read_then (range_from ps None None) (λ range.
+    Some (keys_between start end range))))
     else None
 
 -- the rows that a view's reader asks for, or nothing where the query is a bad one

@@ -3,7 +3,7 @@
 ghost use Rattle.std.specs.Prelude.{◌≡◌, IfOk, map, option_map, string_bytes};
 ghost use Rattle.couch_json.specs.View.{view};
 ghost use Rattle.couch_http.specs.Message.{header_field, message_of};
-ghost use Rattle.api.specs.Asking.{asker, body_of, denial, lacks_parameters, pair_of};
+ghost use Rattle.api.specs.Asking.{asker, json_body, denial, lacks_parameters, pair_of};
 ghost use Rattle.api.specs.RequestReading.{Says};
 ghost use Rattle.api.specs.Asking.{plain};
 
@@ -74,7 +74,7 @@ pub fn without_parameters(request: &Request) -> Result<(), RequestFault>
 
 /// Reads the value of a body.
 pub fn body(alloc: Global, request: &Request) -> Result<Json, RequestFault>
-    ensures { Says view result (body_of (message_of request.now)) }
+    ensures { Says view result (json_body (message_of request.now)) }
 {
     match read(alloc, &request.body) {
         Ok(value) => Ok(value),

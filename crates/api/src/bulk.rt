@@ -4,7 +4,7 @@ ghost use Rattle.std.specs.Prelude.{◌≡◌, option_map, map as list_map, code
 ghost use Rattle.couch_http.specs.Message.{message_of};
 ghost use Rattle.couch_json.specs.Value.{member_at, member_of};
 ghost use Rattle.couch_json.specs.View.{members_view, view};
-ghost use Rattle.api.specs.Bulk.{bulk_in, bulk_of, documents_in, documents_of, new_edits_in};
+ghost use Rattle.api.specs.Bulk.{bulk_in, bulk_of, bulk_documents_in, bulk_documents_of, new_edits_in};
 ghost use Rattle.api.specs.BulkAsked.{bulk_asked};
 ghost use Rattle.api.specs.RequestReading.{Says};
 
@@ -62,7 +62,7 @@ fn new_edits_in(value: Option<&Json>) -> Option<bool>
 
 /// Returns the list that `docs` is; `None` where it is not given or is no list.
 fn documents_in(value: Json) -> Option<Vec<Json>>
-    ensures { option_map (λ documents. list_map view documents.items) result ≡ documents_in (member_of (view value) (codes "docs")) }
+    ensures { option_map (λ documents. list_map view documents.items) result ≡ bulk_documents_in (member_of (view value) (codes "docs")) }
 {
     let Json::Object(members) = value else {
         return None;
@@ -80,7 +80,7 @@ fn take_member(members: NameMap<Json>, name: &str) -> Option<Json>
 
 /// Returns the elements, where the value is a list.
 fn list_of(value: Json) -> Option<Vec<Json>>
-    ensures { option_map (λ elements. list_map view elements.items) result ≡ documents_of (view value) }
+    ensures { option_map (λ elements. list_map view elements.items) result ≡ bulk_documents_of (view value) }
 {
     match value {
         Json::Array(elements) => Some(elements),

@@ -3,7 +3,7 @@
 ghost use Rattle.std.specs.Prelude.{◌≡◌, IfOk, option_map};
 ghost use Rattle.couch_json.specs.View.{members_view, view};
 ghost use Rattle.read.specs.DifferencesAsked.{all_asked};
-ghost use Rattle.api.specs.Listings.{differences_in, revisions_of_members};
+ghost use Rattle.api.specs.Listings.{requested_differences, revisions_of_members};
 
 use crate::query::list_revisions;
 use couch_json::{Got, Json, NameMap};
@@ -13,7 +13,7 @@ use std::alloc::Global;
 /// Reads the revisions that a body asks about: an object from texts to lists of revisions; `None`
 /// where it is of another form.
 pub fn differences_in(alloc: Global, value: &Json) -> Got<Option<Vec<AskedRevisions>>>
-    ensures { IfOk result (λ asked. option_map (λ all. all_asked all.items) asked ≡ differences_in (view value.now)) }
+    ensures { IfOk result (λ asked. option_map (λ all. all_asked all.items) asked ≡ requested_differences (view value.now)) }
 {
     match value.members() {
         Some(members) => revisions_of(alloc, members),

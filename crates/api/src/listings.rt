@@ -6,9 +6,9 @@ ghost use Rattle.std.specs.List.{list_all};
 ghost use Rattle.couch_http.specs.Message.{message_of};
 ghost use Rattle.api.specs.RequestReading.{Says};
 ghost use Rattle.api.specs.Queried.{texts_of};
-ghost use Rattle.api.specs.Listings.{changes_asked, changes_query, count_in, is_count_text, key_in};
+ghost use Rattle.api.specs.Listings.{changes_asked, changes_query, count_in_text, is_count_text, key_in};
 ghost use Rattle.api.specs.Listings.{listing_names, listing_query, range_asked, range_from, style_in};
-ghost use Rattle.api.specs.Queries.{are_named, flag_in, given_at};
+ghost use Rattle.api.specs.Queries.{parameters_are_named, flag_in, given_at};
 ghost use Rattle.api.specs.Refusals.{there_or};
 
 use crate::fault::RequestFault;
@@ -48,7 +48,7 @@ fn read_range(alloc: Global, parameters: &[(String, String)]) -> Got<Option<IdRa
 
 /// Tests whether all names are those of a listing's parameters.
 fn are_listing_names(parameters: &[(String, String)]) -> bool
-    ensures { result ≡ are_named listing_names (texts_of parameters.now) }
+    ensures { result ≡ parameters_are_named listing_names (texts_of parameters.now) }
 {
     let names = [
         "startkey",
@@ -115,7 +115,7 @@ fn read_changes(parameters: &[(String, String)]) -> Option<SeqRange>
 
 /// Reads the number at a name, if there is one; `None` where the parameter is of another form.
 fn count_at(parameters: &[(String, String)], name: &str) -> Option<Option<u64>>
-    ensures { result ≡ given_at count_in name.now (texts_of parameters.now) }
+    ensures { result ≡ given_at count_in_text name.now (texts_of parameters.now) }
 {
     match sole_value(parameters, name)? {
         Some(value) => Some(Some(count(value)?)),
@@ -125,7 +125,7 @@ fn count_at(parameters: &[(String, String)], name: &str) -> Option<Option<u64>>
 
 /// Reads a number of 1 to 19 digits, up to 2^63 - 1.
 fn count(text: &str) -> Option<u64>
-    ensures { result ≡ count_in text.now }
+    ensures { result ≡ count_in_text text.now }
 {
     if !is_count(text) {
         return None;

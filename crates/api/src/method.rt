@@ -1,5 +1,5 @@
 ghost use Rattle.std.specs.Prelude.{◌≡◌};
-ghost use Rattle.api.specs.Asking.{method_of};
+ghost use Rattle.api.specs.Asking.{method_named};
 
 /// The methods that some page has (RFC 9110, section 9.3).
 #[derive(Clone, Copy, Debug, PartialEq, Eq)]
@@ -17,7 +17,7 @@ pub enum RequestMethod {
 /// Finds the method that a request names, where some page has it. Methods have case (RFC 9110,
 /// section 9.1).
 pub fn method_of(method: &str) -> Option<RequestMethod>
-    ensures { result ≡ method_of method.now }
+    ensures { result ≡ method_named method.now }
 {
     if method == "GET" {
         return Some(RequestMethod::Get);

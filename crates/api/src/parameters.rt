@@ -2,7 +2,7 @@
 
 ghost use Rattle.std.specs.Prelude.{◌≡◌, IfOk, map, option_map, option_copied, string_bytes};
 ghost use Rattle.api.specs.Queried.{texts_of};
-ghost use Rattle.api.specs.Queries.{are_named, flag_in, given_at, parameter_of, parameters_in, sole_value};
+ghost use Rattle.api.specs.Queries.{parameters_are_named, flag_in, given_at, parameter_of, parameters_in, sole_value};
 ghost use Rattle.form_urlencoded.specs.Form.{raw_pairs};
 
 use couch_json::is_among;
@@ -34,7 +34,7 @@ fn decode_form(alloc: Global, form: &[u8]) -> Result<Vec<(String, String)>, Allo
 
 /// Tells whether no parameter has another name than these.
 pub(crate) fn are_named(parameters: &[(String, String)], names: &[&str]) -> bool
-    ensures { result ≡ are_named (map (λ name. name.now) names.now) (texts_of parameters.now) }
+    ensures { result ≡ parameters_are_named (map (λ name. name.now) names.now) (texts_of parameters.now) }
 {
     for (name, _value) in parameters {
         if !is_among(name.as_str(), names) {

@@ -4,7 +4,7 @@ ghost use Rattle.std.specs.Prelude.{◌≡◌, ◌++◌, ◌∷◌, IfOk, false,
 ghost use Rattle.tree.specs.DocumentId.{is_local_id};
 ghost use Rattle.api.specs.RequestReading.{Says};
 ghost use Rattle.api.specs.Paths.{database_name_in, decoded_text, decoded_at, document_id_in, id_text_in};
-ghost use Rattle.api.specs.Paths.{index_name_in, local_id_in, named_id_in, part_at, slash, text_if};
+ghost use Rattle.api.specs.Paths.{index_name_in_path, local_id_in, named_id_in, part_at, slash, text_if};
 ghost use Rattle.api.specs.Refusals.{there_or};
 ghost use Rattle.std.specs.Str.{is_utf8};
 
@@ -70,7 +70,7 @@ fn named_id(alloc: Global, path: &str) -> Result<DocId, RequestFault>
 
 /// Reads the name of the index that the path of a view ends with.
 pub fn index_name(alloc: Global, path: &str) -> Result<String, RequestFault>
-    ensures { Says string_bytes result (there_or Refusal.Id (index_name_in path.now)) }
+    ensures { Says string_bytes result (there_or Refusal.Id (index_name_in_path path.now)) }
 {
     match decoded_part(alloc, path, 5)? {
         Some(name) => Ok(name),

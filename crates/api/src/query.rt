@@ -3,10 +3,11 @@
 ghost use Rattle.std.specs.Prelude.{◌≡◌, IfOk, option_copied, option_map};
 ghost use Rattle.couch_http.specs.Message.{message_of};
 ghost use Rattle.couch_json.specs.View.{items_view, view};
+ghost use Rattle.tree.specs.Revision.{revision_read};
 ghost use Rattle.api.specs.RequestReading.{Says};
 ghost use Rattle.api.specs.Queried.{choice_of, query_of, texts_of};
-ghost use Rattle.api.specs.Queries.{asked_by, asked_of_document, document_query, open_revisions, query_by, revision_asked};
-ghost use Rattle.api.specs.Queries.{revision_by, revision_in, revision_query, revisions, revisions_in, revisions_listed};
+ghost use Rattle.api.specs.Queries.{requested_revisions, asked_of_document, document_query, requested_open_revisions, document_query_by, revision_asked};
+ghost use Rattle.api.specs.Queries.{if_given, revision_in, revision_query, revisions, revisions_in, revisions_listed};
 ghost use Rattle.api.specs.Refusals.{there_or};
 
 use crate::fault::RequestFault;
@@ -83,7 +84,7 @@ fn query_by(
     open_revs: Option<&str>,
     revs: Option<bool>,
 ) -> Got<Option<DocumentQuery>>
-    ensures { IfOk result (λ query. option_map query_of query ≡ query_by (option_copied rev.entry) (option_copied open_revs.entry) revs) }
+    ensures { IfOk result (λ query. option_map query_of query ≡ document_query_by (option_copied rev.entry) (option_copied open_revs.entry) revs) }
 {
     let Some(asked) = asked_by(alloc, rev, open_revs)? else {
         return Ok(None);
@@ -96,7 +97,7 @@ fn query_by(
 
 /// Reads which revisions `rev` and `open_revs` ask for.
 fn asked_by(alloc: Global, rev: Option<&str>, open_revs: Option<&str>) -> Got<Option<Asked>>
-    ensures { IfOk result (λ asked. option_map choice_of asked ≡ asked_by (option_copied rev.entry) (option_copied open_revs.entry)) }
+    ensures { IfOk result (λ asked. option_map choice_of asked ≡ requested_revisions (option_copied rev.entry) (option_copied open_revs.entry)) }
 {
     match (rev, open_revs) {
         (None, None) => Ok(Some(Asked::Winner)),
@@ -111,7 +112,7 @@ fn asked_by(alloc: Global, rev: Option<&str>, open_revs: Option<&str>) -> Got<Op
 
 /// Reads the open revisions that are asked for: `all`, or a JSON list of revisions.
 fn read_open_revisions(alloc: Global, value: &str) -> Got<Option<Asked>>
-    ensures { IfOk result (λ asked. option_map choice_of asked ≡ open_revisions value.now) }
+    ensures { IfOk result (λ asked. option_map choice_of asked ≡ requested_open_revisions value.now) }
 {
     if value == "all" {
         return Ok(Some(Asked::Leaves));
@@ -188,7 +189,7 @@ fn revision_asked(parameters: &[(String, String)]) -> Option<Option<Rev>>
 
 /// Reads the revision that a parameter spells, if there is one.
 fn revision_by(value: Option<&str>) -> Option<Option<Rev>>
-    ensures { result ≡ revision_by (option_copied value.entry) }
+    ensures { result ≡ if_given revision_read (option_copied value.entry) }
 {
     let Some(value) = value else {
         return Some(None);

@@ -4,9 +4,9 @@ ghost use Rattle.std.specs.Prelude.{◌≡◌, IfOk, Some, option_map};
 ghost use Rattle.couch_http.specs.Message.{message_of};
 ghost use Rattle.api.specs.RequestReading.{Says};
 ghost use Rattle.api.specs.Queried.{texts_of};
-ghost use Rattle.api.specs.Queries.{are_named, given_at};
+ghost use Rattle.api.specs.Queries.{parameters_are_named, given_at};
 ghost use Rattle.api.specs.Refusals.{there_or};
-ghost use Rattle.api.specs.Views.{cut_at, end_side, json_in, keys_asked, keys_between, view_names, view_query};
+ghost use Rattle.api.specs.Views.{cut_at, end_side, json_in_text, keys_asked, keys_between, view_names, view_query};
 
 use crate::fault::RequestFault;
 use crate::listings::range_from;
@@ -50,7 +50,7 @@ fn read_keys(alloc: Global, parameters: &[(String, String)]) -> Got<Option<KeyRa
 
 /// Tests whether all names are those of a view's parameters.
 fn are_view_names(parameters: &[(String, String)]) -> bool
-    ensures { result ≡ are_named view_names (texts_of parameters.now) }
+    ensures { result ≡ parameters_are_named view_names (texts_of parameters.now) }
 {
     let names = [
         "startkey",
@@ -110,7 +110,7 @@ fn value_at(
     parameters: &[(String, String)],
     name: &str,
 ) -> Got<Option<Option<IndexKey>>>
-    ensures { IfOk result (λ key. key ≡ given_at json_in name.now (texts_of parameters.now)) }
+    ensures { IfOk result (λ key. key ≡ given_at json_in_text name.now (texts_of parameters.now)) }
 {
     let Some(value) = sole_value(parameters, name) else {
         return Ok(None);
@@ -123,7 +123,7 @@ fn value_at(
 
 /// Reads a key, which is a JSON value.
 fn read_value(alloc: Global, value: &str) -> Got<Option<Option<IndexKey>>>
-    ensures { IfOk result (λ key. key ≡ option_map (λ k. Some k) (json_in value.now)) }
+    ensures { IfOk result (λ key. key ≡ option_map (λ k. Some k) (json_in_text value.now)) }
 {
     match read(alloc, value.as_bytes()) {
         Ok(value) => Ok(Some(Some(IndexKey::new(value)))),

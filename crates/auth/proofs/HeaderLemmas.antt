@@ -3,27 +3,27 @@ use Rattle.std.proofs.Common.{◌≡◌, ℕ, ◌+◌, ◌<◌, Bool, true, fals
 use Rattle.std.proofs.lemmas.List.{at_drop_more}
 use Rattle.std.proofs.lemmas.Bool.Decides.{nat_tests}
 use Rattle.std.specs.Str.{str_eq_ignore_ascii_case}
-use Rattle.auth.specs.Headers.{fields_of, values_of}
+use Rattle.auth.specs.Headers.{fields_of, header_values}
 
 module _ {N V : Type 0} (read_name : N → List ℕ) (read_value : V → List ℕ) (name : List ℕ) (headers : List (N × V)) (i : ℕ) (h : N × V) where
   -- the values of the headers after the i-th
   abbrev later : List (List ℕ)
-  later = values_of name (fields_of read_name read_value (drop (i + 1) headers))
+  later = header_values name (fields_of read_name read_value (drop (i + 1) headers))
 
   -- the values from the i-th header on, by whether its name, here `header`, is the one looked for
   values_of-drop : (header : List ℕ) (same : Bool) → i < length headers → h ≡ get_or headers i h → header ≡ read_name h.0
-      → same ≡ str_eq_ignore_ascii_case header name → values_of name (fields_of read_name read_value (drop i headers)) ≡ cond same (read_value h.1 ∷ later) later
+      → same ≡ str_eq_ignore_ascii_case header name → header_values name (fields_of read_name read_value (drop i headers)) ≡ cond same (read_value h.1 ∷ later) later
   values_of-drop header same small is read tested =
-      at_drop_more (λ hs. values_of name (fields_of read_name read_value hs)) headers i h small
-      ∙ (ap (λ x. values_of name (fields_of read_name read_value (x ∷ drop (i + 1) headers))) (sym is)
+      at_drop_more (λ hs. header_values name (fields_of read_name read_value hs)) headers i h small
+      ∙ (ap (λ x. header_values name (fields_of read_name read_value (x ∷ drop (i + 1) headers))) (sym is)
       ∙ ap (λ t. cond t (read_value h.1 ∷ later) later) (ap (λ b. str_eq_ignore_ascii_case b name) (sym read) ∙ sym tested))
 
   pub values_of-drop_named : (header : List ℕ) → i < length headers → h ≡ get_or headers i h → header ≡ read_name h.0 → true ≡ str_eq_ignore_ascii_case header name
-      → values_of name (fields_of read_name read_value (drop i headers)) ≡ read_value h.1 ∷ values_of name (fields_of read_name read_value (drop (i + 1) headers))
+      → header_values name (fields_of read_name read_value (drop i headers)) ≡ read_value h.1 ∷ header_values name (fields_of read_name read_value (drop (i + 1) headers))
   values_of-drop_named header = values_of-drop header true
 
   pub values_of-drop_other : (header : List ℕ) → i < length headers → h ≡ get_or headers i h → header ≡ read_name h.0 → false ≡ str_eq_ignore_ascii_case header name
-      → values_of name (fields_of read_name read_value (drop i headers)) ≡ values_of name (fields_of read_name read_value (drop (i + 1) headers))
+      → header_values name (fields_of read_name read_value (drop i headers)) ≡ header_values name (fields_of read_name read_value (drop (i + 1) headers))
   values_of-drop_other header = values_of-drop header false
 
 -- a value found and one more are two

@@ -4,7 +4,7 @@ use Rattle.std.specs.Prelude.{◌≡◌, ℕ, ◌==◌, Bool, false, ◌&&◌, �
 use Rattle.std.specs.Str.{is_utf8}
 use Rattle.auth.specs.declared.auth_fault.AuthFault.{AuthFault}
 use Rattle.auth.specs.declared.auth_fault.AuthFault.TheVariants.{Token, Repeated, Memory}
-use Rattle.auth.specs.Headers.{user_name_header, roles_header, token_header, is_repeated, value_of}
+use Rattle.auth.specs.Headers.{user_name_header, roles_header, token_header, is_repeated, header_value}
 use Rattle.auth.specs.Hmac.{token_of}
 use Rattle.auth.specs.Roles.{roles_in, roles_of}
 
@@ -46,8 +46,8 @@ unfoldable pub caller_of : List (List ℕ × List ℕ) → List ℕ → List (Li
 caller_of headers secret admins =
     if is_repeated user_name_header headers || is_repeated roles_header headers || is_repeated token_header headers
     then Err Repeated
-    else caller_by (value_of user_name_header headers) (unwrap_or (value_of roles_header headers) [])
-    (value_of token_header headers) secret admins
+    else caller_by (header_value user_name_header headers) (unwrap_or (header_value roles_header headers) [])
+    (header_value token_header headers) secret admins
 
 -- the fault is the definition's refusal, or want of memory, which may come whatever the definition says
 abbrev pub IsRefusedWith : AuthFault → Result Identity AuthFault → Type 0

@@ -20,15 +20,15 @@ abbrev pub fields_of : {N V : Type 0} → (N → List ℕ) → (V → List ℕ) 
 fields_of read_name read_value headers = map (λ h. (read_name h.0, read_value h.1)) headers
 
 -- the values of the headers of this name, in the order that they came
-abbrev pub values_of : List ℕ → List (List ℕ × List ℕ) → List (List ℕ)
-values_of name [] = []
-values_of name (h ∷ hs) =
-    if str_eq_ignore_ascii_case h.0 name then h.1 ∷ values_of name hs else values_of name hs
+abbrev pub header_values : List ℕ → List (List ℕ × List ℕ) → List (List ℕ)
+header_values name [] = []
+header_values name (h ∷ hs) =
+    if str_eq_ignore_ascii_case h.0 name then h.1 ∷ header_values name hs else header_values name hs
 
 -- whether more than one header has this name
 abbrev pub is_repeated : List ℕ → List (List ℕ × List ℕ) → Bool
-is_repeated name headers = nat_lt 1 (length (values_of name headers))
+is_repeated name headers = nat_lt 1 (length (header_values name headers))
 
 -- the value of the first header of this name, where there is one
-abbrev pub value_of : List ℕ → List (List ℕ × List ℕ) → Option (List ℕ)
-value_of name headers = slice_get (values_of name headers) 0
+abbrev pub header_value : List ℕ → List (List ℕ × List ℕ) → Option (List ℕ)
+header_value name headers = slice_get (header_values name headers) 0

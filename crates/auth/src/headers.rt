@@ -1,7 +1,7 @@
 ghost use Rattle.std.specs.Prelude.{◌≡◌, true, IfOk, IfErr, option_copied, option_to_list};
 ghost use Rattle.std.specs.Str.{str_eq_ignore_ascii_case};
 ghost use Rattle.auth.specs.declared.auth_fault.AuthFault.TheVariants.{Repeated};
-ghost use Rattle.auth.specs.Headers.{fields_of, values_of, is_repeated};
+ghost use Rattle.auth.specs.Headers.{fields_of, header_values, is_repeated};
 
 use crate::AuthFault;
 use std::convert::AsSlice;
@@ -22,7 +22,7 @@ pub(crate) fn sole_value<'a, N: AsSlice<u8>, V: AsSlice<u8>>(
     name: &str,
 ) -> Result<Option<&'a [u8]>, AuthFault>
     ensures ok { IfOk result (λ value. option_to_list (option_copied value)
-        ≡ values_of name.now (fields_of N.items V.items headers.now)) }
+        ≡ header_values name.now (fields_of N.items V.items headers.now)) }
     ensures refused { IfErr result (λ fault. (fault ≡ Repeated)
         × (is_repeated name.now (fields_of N.items V.items headers.now) ≡ true)) }
 {

@@ -2,10 +2,10 @@
 
 use crate::broken_streams::{Breaking, Broken, Halting, Slow, SlowHalting};
 use crate::local_client::request;
-use client::{Logged, exchange};
 use couch_http::Request;
 use std::alloc::Global;
 use std::test::Fail;
+use sync::{Logged, exchange};
 
 /// The bytes of a request as they go out (RFC 9112, sections 3 and 6.2).
 const SENT: &str = "PUT /db/a HTTP/1.1\r\nHost: couchd\r\nContent-Length: 8\r\n\r\n{\"by\":2}";

@@ -7,7 +7,7 @@ use Rattle.couch_http.specs.declared.cut.Ending.TheVariants.{Open, Last, Fault}
 use Rattle.couch_http.specs.declared.fault.HttpFault.{HttpFault}
 use Rattle.couch_http.specs.declared.fault.HttpFault.TheVariants.{Syntax, Encoding, TooLarge}
 use Rattle.couch_http.specs.Cutting.{CutsPiece, CutsTo, HasStreamFault, messages_of}
-use Rattle.couch_http.specs.Fields.{body_limit, length_of, request_length, has_transfer_encoding, values_of}
+use Rattle.couch_http.specs.Fields.{body_limit, length_of_values, request_length, has_transfer_encoding, values_of_header}
 use Rattle.couch_http.specs.Head.{HeadScan, within, complete, head_scan}
 use Rattle.couch_http.specs.Message.{HeaderField, Message}
 use Rattle.couch_http.specs.ReplyStream.{reply_length, reply_limit}
@@ -31,14 +31,14 @@ text_sound : (written : Bool) (large : Bool) (n : ℕ) → IsLength (cond writte
 text_sound true large n = number_sound large n
 text_sound false large n = tt
 
-length_sound : (limit : ℕ) (absent : Result ℕ HttpFault) → IsLength absent → (values : List (List ℕ)) → IsLength (length_of limit absent values)
+length_sound : (limit : ℕ) (absent : Result ℕ HttpFault) → IsLength absent → (values : List (List ℕ)) → IsLength (length_of_values limit absent values)
 length_sound limit absent h [] = h
 length_sound limit absent h (value ∷ []) = text_sound _ _ _
 length_sound limit absent h (value ∷ other ∷ more) = tt
 
 pub reply_length_sound : (headers : List HeaderField) (r : Result ℕ HttpFault) → r ≡ reply_length headers → IfErr r IsStreamFault
 reply_length_sound headers r same =
-    subst (λ (x : Result ℕ HttpFault). IfErr x IsStreamFault) (sym same) (as_fault (reply_length headers) (length_sound reply_limit (Err Syntax) tt (values_of (codes "Content-Length") headers)))
+    subst (λ (x : Result ℕ HttpFault). IfErr x IsStreamFault) (sym same) (as_fault (reply_length headers) (length_sound reply_limit (Err Syntax) tt (values_of_header (codes "Content-Length") headers)))
   where
     as_fault : (x : Result ℕ HttpFault) → IsLength x → IfErr x IsStreamFault
     as_fault (Ok n) h = tt
@@ -59,7 +59,7 @@ head_sound false m size rest h = with_length_sound m size rest h
 after_head_sound : (method target : List ℕ) (minor : ℕ) (headers : List HeaderField) (rest : List ℕ) → IsSound (after_head method target minor headers rest)
 after_head_sound method target minor headers rest =
     head_sound (has_transfer_encoding headers) (announced_request method target minor headers) (request_length headers) rest
-    (length_sound body_limit (Ok 0) tt (values_of (codes "Content-Length") headers))
+    (length_sound body_limit (Ok 0) tt (values_of_header (codes "Content-Length") headers))
 
 reads_sound : (head rest : List ℕ) (front : Front Message) → ReadsHead head rest front → IsSound front
 reads_sound head rest front (inl (h, of, e)) = subst IsSound (sym e) (after_head_sound h.method h.target h.minor (map field_of h.fields) rest)

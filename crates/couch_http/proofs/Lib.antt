@@ -13,3 +13,4 @@ pub mod PlaceLemmas
 pub mod PhraseLemmas
 pub mod ReplyHeads
 pub mod ReadBack
+pub mod Taken

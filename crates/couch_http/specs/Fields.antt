@@ -19,10 +19,10 @@ unfoldable pub same_name : List ℕ → List ℕ → Bool
 same_name a b = bytes_eq (map to_ascii_lowercase a) (map to_ascii_lowercase b)
 
 -- the values of the headers of a name, in order
-abbrev pub values_of : List ℕ → List HeaderField → List (List ℕ)
-values_of name [] = []
-values_of name (h ∷ headers) =
-    if same_name h.name name then h.value ∷ values_of name headers else values_of name headers
+abbrev pub values_of_header : List ℕ → List HeaderField → List (List ℕ)
+values_of_header name [] = []
+values_of_header name (h ∷ headers) =
+    if same_name h.name name then h.value ∷ values_of_header name headers else values_of_header name headers
 
 -- the number that decimal digits write behind n; 48 is the digit 0
 abbrev pub decimal_after : ℕ → List ℕ → ℕ
@@ -37,14 +37,14 @@ length_text limit text =
     else Err Syntax
 
 -- the length of these values, which is `absent` where there is none; two are refused
-abbrev pub length_of : ℕ → Result ℕ HttpFault → List (List ℕ) → Result ℕ HttpFault
-length_of limit absent [] = absent
-length_of limit absent (value ∷ []) = length_text limit value
-length_of limit absent (value ∷ other ∷ more) = Err Syntax
+abbrev pub length_of_values : ℕ → Result ℕ HttpFault → List (List ℕ) → Result ℕ HttpFault
+length_of_values limit absent [] = absent
+length_of_values limit absent (value ∷ []) = length_text limit value
+length_of_values limit absent (value ∷ other ∷ more) = Err Syntax
 
 -- what `Content-Length` says, up to the limit
 abbrev pub content_length : ℕ → Result ℕ HttpFault → List HeaderField → Result ℕ HttpFault
-content_length limit absent headers = length_of limit absent (values_of (codes "Content-Length") headers)
+content_length limit absent headers = length_of_values limit absent (values_of_header (codes "Content-Length") headers)
 
 -- of a request: without the header it has no body
 abbrev pub request_length : List HeaderField → Result ℕ HttpFault
@@ -52,7 +52,7 @@ request_length headers = content_length body_limit (Ok 0) headers
 
 -- a message has the field Transfer-Encoding
 abbrev pub has_transfer_encoding : List HeaderField → Bool
-has_transfer_encoding headers = nat_lt 0 (length (values_of (codes "Transfer-Encoding") headers))
+has_transfer_encoding headers = nat_lt 0 (length (values_of_header (codes "Transfer-Encoding") headers))
 
 -- one of the parts between commas is `close`, with spaces and tabs around it dropped
 abbrev pub lists_close : List ℕ → Bool
@@ -60,19 +60,19 @@ lists_close value = list_any (λ part. same_name (trim_ows part) (codes "close")
 
 -- some `Connection` header lists `close`
 abbrev pub asks_close : List HeaderField → Bool
-asks_close headers = list_any (λ value. lists_close value) (values_of (codes "Connection") headers)
+asks_close headers = list_any (λ value. lists_close value) (values_of_header (codes "Connection") headers)
 
 -- the byte of a question mark
 abbrev pub question_mark : ℕ
 question_mark = 63
 
 -- the target up to its first question mark
-abbrev pub path_of : List ℕ → List ℕ
-path_of target = before_first (λ b. b == question_mark) target
+abbrev pub target_path : List ℕ → List ℕ
+target_path target = before_first (λ b. b == question_mark) target
 
 -- what stands behind the first question mark, where there is one
-abbrev pub query_of : List ℕ → Option (List ℕ)
-query_of target =
+abbrev pub target_query : List ℕ → Option (List ℕ)
+target_query target =
     if nat_lt (position_or_len (λ b. b == question_mark) target) (length target)
     then Some (after_first (λ b. b == question_mark) target)
     else None

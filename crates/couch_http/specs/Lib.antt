@@ -15,3 +15,4 @@ pub mod ReplyStages
 pub mod Pieces
 pub mod Places
 pub mod Laws
+pub mod Writing

@@ -9,8 +9,8 @@ use Rattle.couch_http.specs.declared.stage.Stage.TheVariants.{Head, Body, Closed
 use Rattle.couch_http.specs.declared.stage.PartialHead.{PartialHead}
 use Rattle.couch_http.specs.declared.stage.PartialRequest.{PartialRequest}
 use Rattle.couch_http.specs.declared.stage.Taken.{Taken}
-use Rattle.couch_http.specs.declared.stage.Begun.{Begun}
-use Rattle.couch_http.specs.declared.stage.Begun.TheVariants.{Waits, Broken, Whole}
+use Rattle.couch_http.specs.declared.stage.Parsed.{Parsed}
+use Rattle.couch_http.specs.declared.stage.Parsed.TheVariants.{Incomplete, Faulty, Complete}
 use Rattle.couch_http.specs.Message.{message_of}
 use Rattle.couch_http.specs.Head.{head_scan, within}
 use Rattle.couch_http.specs.Stream.{waits, broken, whole, with_body, head_limit, Begins}
@@ -67,7 +67,7 @@ abbrev pub IsTaken : List ℕ → Taken → Type 0
 IsTaken bytes t = IsStage t.stage × CutsTo bytes (messages_of t.cut) t.cut.ending (stage_rest t.stage)
 
 -- how a stream of these bytes begins, and what is kept of one that waits
-abbrev pub IsBegun : List ℕ → Begun → Type 0
-IsBegun bytes (Waits stage) = Begins bytes waits × (stage_rest stage ≡ Some bytes) × IsStage stage
-IsBegun bytes (Broken fault) = Begins bytes (broken fault)
-IsBegun bytes (Whole request rest) = Begins bytes (whole (message_of request) rest.now)
+abbrev pub IsBegun : List ℕ → Parsed → Type 0
+IsBegun bytes (Incomplete stage) = Begins bytes waits × (stage_rest stage ≡ Some bytes) × IsStage stage
+IsBegun bytes (Faulty fault) = Begins bytes (broken fault)
+IsBegun bytes (Complete request rest) = Begins bytes (whole (message_of request) rest.now)

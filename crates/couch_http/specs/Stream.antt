@@ -7,7 +7,7 @@ use Rattle.couch_http.specs.declared.fault.HttpFault.TheVariants.{Syntax, Encodi
 use Rattle.couch_http.specs.Message.{HeaderField, Message}
 use Rattle.couch_http.specs.Head.{HeadScan, head_scan}
 pub use Rattle.couch_http.specs.Front.{Front, waits, broken, whole, head_limit, header_limit, with_content, with_content_length, ReadsBy, is_too_large, StandsAtHead, unfinished_head, StandsAtScan, BeginsBy}
-use Rattle.couch_http.specs.Fields.{has_transfer_encoding, request_length, asks_close, path_of, query_of}
+use Rattle.couch_http.specs.Fields.{has_transfer_encoding, request_length, asks_close, target_path, target_query}
 
 -- httparse reads all of the head, and no more, as a request with at most so many headers
 pub record IsHeadOf (head : List ℕ) (h : RequestHead) : Type 0 where
@@ -30,8 +30,8 @@ with_length m size rest = with_content_length (λ body. record m { body = body }
 abbrev pub announced_request : List ℕ → List ℕ → ℕ → List HeaderField → Message
 announced_request method target minor headers = record {
   method = method;
-  path = path_of target;
-  query = query_of target;
+  path = target_path target;
+  query = target_query target;
   headers = headers;
   body = [];
   last = minor == 0 || asks_close headers;

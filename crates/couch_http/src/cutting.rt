@@ -17,7 +17,7 @@ use crate::limits::{HEAD_LIMIT, HEADER_LIMIT};
 use crate::request::Request;
 use crate::response::Response;
 use crate::scan::{Scan, Scanned, WholeHead};
-use crate::stage::{Begun, PartialHead, PartialRequest, Refused, Stage, Taken};
+use crate::stage::{Parsed, PartialHead, PartialRequest, Refused, Stage, Taken};
 use couch_json::{Got, NoMemory};
 use std::alloc::Global;
 
@@ -76,17 +76,13 @@ fn take_in_head(
     match partial.scan.run(piece) {
         Scanned::Within(scan) => {
             if !may_go_on(had.saturating_add(piece.len())) {
-                return Ok(without_requests(
-                    alloc,
-                    Stage::Closed,
-                    Ending::Fault(HttpFault::TooLarge),
-                ));
+                return Ok(empty_cut(alloc, Stage::Closed, Ending::Fault(HttpFault::TooLarge)));
             }
             if partial.bytes.extend_from_slice(piece).is_err() {
                 return Err(partial);
             }
             partial.scan = scan;
-            Ok(without_requests(alloc, Stage::Head(partial), Ending::Open))
+            Ok(empty_cut(alloc, Stage::Head(partial), Ending::Open))
         }
         Scanned::Complete(WholeHead { lines, len }) => {
             let (end, rest) = piece.split_at(len);
@@ -135,7 +131,7 @@ fn take_in_body(
             length,
         };
         return match grown {
-            Ok(()) => Ok(without_requests(alloc, Stage::Body(partial), Ending::Open)),
+            Ok(()) => Ok(empty_cut(alloc, Stage::Body(partial), Ending::Open)),
             Err(_) => Err(partial),
         };
     }
@@ -177,16 +173,16 @@ fn cut_at_head(
 }
 
 /// Cuts the requests off a stream that begins so.
-fn cut_begun(alloc: Global, begun: Begun, room: &mut Vec<Response>) -> Got<Taken>
+fn cut_begun(alloc: Global, begun: Parsed, room: &mut Vec<Response>) -> Got<Taken>
     ensures taken { IfOk result (λ t. (bytes : List ℕ) → IsBegun bytes begun.entry → IsTaken bytes t) }
     ensures items { room.new.items ≡ room.old.items }
     ensures room { IfOk result (λ t. vec_len room.new + length t.cut.requests.items + 1 ≤ vec_capacity room.new) }
 {
     room.reserve(1)?;
     match begun {
-        Begun::Waits(stage) => Ok(without_requests(alloc, stage, Ending::Open)),
-        Begun::Broken(fault) => Ok(without_requests(alloc, Stage::Closed, Ending::Fault(fault))),
-        Begun::Whole(request, rest) => match cut_after(alloc, request, rest, room) {
+        Parsed::Incomplete(stage) => Ok(empty_cut(alloc, stage, Ending::Open)),
+        Parsed::Faulty(fault) => Ok(empty_cut(alloc, Stage::Closed, Ending::Fault(fault))),
+        Parsed::Complete(request, rest) => match cut_after(alloc, request, rest, room) {
             Ok(taken) => Ok(taken),
             Err(_request) => Err(NoMemory),
         },
@@ -207,7 +203,7 @@ fn cut_after(
     ensures room { IfOk result (λ t. vec_len room.new + length t.cut.requests.items + 1 ≤ vec_capacity room.new) }
 {
     let mut taken = if request.last {
-        without_requests(alloc, Stage::Closed, Ending::Last)
+        empty_cut(alloc, Stage::Closed, Ending::Last)
     } else {
         let Ok(taken) = cut_all(alloc, rest) else {
             return Err(request);
@@ -231,21 +227,21 @@ fn cut_all(alloc: Global, bytes: &[u8]) -> Got<Taken>
     let mut rest = bytes;
     loop {
         match begin(alloc, rest)? {
-            Begun::Waits(stage) => {
+            Parsed::Incomplete(stage) => {
                 let ending = Ending::Open;
                 return Ok(Taken {
                     cut: Cut { requests, ending },
                     stage,
                 });
             }
-            Begun::Broken(fault) => {
+            Parsed::Faulty(fault) => {
                 let ending = Ending::Fault(fault);
                 return Ok(Taken {
                     cut: Cut { requests, ending },
                     stage: Stage::Closed,
                 });
             }
-            Begun::Whole(request, more) => {
+            Parsed::Complete(request, more) => {
                 let last = request.last;
                 requests.push(request)?;
                 if last {
@@ -262,7 +258,7 @@ fn cut_all(alloc: Global, bytes: &[u8]) -> Got<Taken>
 }
 
 /// Answers without a request: the stream stands so.
-fn without_requests(alloc: Global, stage: Stage, ending: Ending) -> Taken
+fn empty_cut(alloc: Global, stage: Stage, ending: Ending) -> Taken
     ensures stage { result.stage ≡ stage }
     ensures ending { result.cut.ending ≡ ending }
     ensures requests { result.cut.requests.items ≡ [] }
@@ -277,16 +273,16 @@ fn without_requests(alloc: Global, stage: Stage, ending: Ending) -> Taken
 }
 
 /// Reads how a stream of these bytes begins.
-fn begin<'a>(alloc: Global, bytes: &'a [u8]) -> Got<Begun<'a>>
+fn begin<'a>(alloc: Global, bytes: &'a [u8]) -> Got<Parsed<'a>>
     ensures { IfOk result (IsBegun bytes.now) }
 {
     match search(bytes) {
         Scanned::Within(scan) => {
             if !may_go_on(bytes.len()) {
-                return Ok(Begun::Broken(HttpFault::TooLarge));
+                return Ok(Parsed::Faulty(HttpFault::TooLarge));
             }
             let bytes = Vec::from_slice(alloc, bytes)?;
-            Ok(Begun::Waits(Stage::Head(PartialHead { bytes, scan })))
+            Ok(Parsed::Incomplete(Stage::Head(PartialHead { bytes, scan })))
         }
         Scanned::Complete(WholeHead { lines, len }) => {
             let (head, rest) = bytes.split_at(len);
@@ -304,15 +300,15 @@ fn search(bytes: &[u8]) -> Scanned
 }
 
 /// Reads what a head announces, and how much of it has come.
-fn after_head<'a>(alloc: Global, head: &[u8], rest: &'a [u8], lines: usize) -> Got<Begun<'a>>
+fn after_head<'a>(alloc: Global, head: &[u8], rest: &'a [u8], lines: usize) -> Got<Parsed<'a>>
     requires { head_scan head.now ≡ complete lines [] }
     ensures { IfOk result (IsBegun (head.now ++ rest.now)) }
 {
     if is_too_large(head, lines) {
-        return Ok(Begun::Broken(HttpFault::TooLarge));
+        return Ok(Parsed::Faulty(HttpFault::TooLarge));
     }
     match read_head(alloc, head)? {
-        HeadRead::Broken(fault) => Ok(Begun::Broken(fault)),
+        HeadRead::Broken(fault) => Ok(Parsed::Faulty(fault)),
         HeadRead::Announced(request, length) => with_body(alloc, head, request, length, rest),
     }
 }
@@ -324,14 +320,14 @@ fn with_body<'a>(
     mut request: Request,
     length: usize,
     rest: &'a [u8],
-) -> Got<Begun<'a>>
+) -> Got<Parsed<'a>>
     requires { (more : List ℕ) → Begins (head.now ++ more) (with_body (message_of request) length more) }
     ensures { IfOk result (IsBegun (head.now ++ rest.now)) }
 {
     if rest.len() < length {
         request.body = Vec::from_slice(alloc, rest)?;
         let head = Vec::from_slice(alloc, head)?;
-        return Ok(Begun::Waits(Stage::Body(PartialRequest {
+        return Ok(Parsed::Incomplete(Stage::Body(PartialRequest {
             head,
             request,
             length,
@@ -339,7 +335,7 @@ fn with_body<'a>(
     }
     let (body, more) = rest.split_at(length);
     request.body = Vec::from_slice(alloc, body)?;
-    Ok(Begun::Whole(request, more))
+    Ok(Parsed::Complete(request, more))
 }
 
 /// Tests whether a head is too long, or has too many lines.

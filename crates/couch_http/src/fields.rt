@@ -5,7 +5,7 @@ ghost use Rattle.std.specs.Char.{is_ascii_digit};
 ghost use Rattle.std.specs.List.{list_all};
 ghost use Rattle.httparse.specs.Grammar.{skip_ows, trim_ows};
 ghost use Rattle.couch_http.specs.Message.{header_field};
-ghost use Rattle.couch_http.specs.Fields.{same_name, values_of, decimal_after, length_text, content_length};
+ghost use Rattle.couch_http.specs.Fields.{same_name, values_of_header, decimal_after, length_text, content_length};
 ghost use Rattle.couch_http.specs.Fields.{request_length, has_transfer_encoding, lists_close, asks_close};
 ghost use Rattle.couch_http.specs.ReplyStream.{reply_length};
 ghost use Rattle.couch_http.specs.Stream.{IsStreamFault};
@@ -24,9 +24,9 @@ fn is_same_name(a: &[u8], b: &[u8]) -> bool
 
 /// Returns the value of the first header of a name, and the headers after it.
 fn find_header<'a>(headers: &'a [Header], name: &[u8]) -> Option<(&'a [u8], &'a [Header])>
-    ensures { MatchOption result (values_of name.now (map header_field headers.now) ≡ [])
-        (λ found. values_of name.now (map header_field headers.now)
-        ≡ found.0.now ∷ values_of name.now (map header_field found.1.now)) }
+    ensures { MatchOption result (values_of_header name.now (map header_field headers.now) ≡ [])
+        (λ found. values_of_header name.now (map header_field headers.now)
+        ≡ found.0.now ∷ values_of_header name.now (map header_field found.1.now)) }
 {
     for (i, header) in headers.iter().enumerate() {
         if is_same_name(&header.name, name) {

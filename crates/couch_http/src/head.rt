@@ -7,7 +7,7 @@ ghost use Rattle.http_header.specs.Token.{IsToken};
 ghost use Rattle.httparse.specs.Grammar.{RequestHead};
 ghost use Rattle.httparse.specs.Spans.{span_bytes, IsWithin, IsHeaderWithin, IsRequestWithin};
 ghost use Rattle.couch_http.specs.Message.{header_field};
-ghost use Rattle.couch_http.specs.Fields.{path_of, query_of};
+ghost use Rattle.couch_http.specs.Fields.{target_path, target_query};
 ghost use Rattle.couch_http.specs.Beginning.{IsHeadRead, IsReadOf, IsWholeRequest, field_at};
 ghost use Rattle.couch_http.specs.Stream.{IsHeadOf, header_limit};
 
@@ -142,7 +142,7 @@ fn text_of(bytes: &[u8]) -> &str
 
 /// Returns a target up to its first `?`.
 fn path_of(alloc: Global, target: &str) -> Got<String>
-    ensures { IfOk result (λ path. string_bytes path ≡ path_of target.now) }
+    ensures { IfOk result (λ path. string_bytes path ≡ target_path target.now) }
 {
     let path = match target.split_once('?') {
         Some((path, _)) => path,
@@ -153,7 +153,7 @@ fn path_of(alloc: Global, target: &str) -> Got<String>
 
 /// Tells what stands behind the first `?` of a target.
 fn query_of(alloc: Global, target: &str) -> Got<Option<String>>
-    ensures { IfOk result (λ query. option_map string_bytes query ≡ query_of target.now) }
+    ensures { IfOk result (λ query. option_map string_bytes query ≡ target_query target.now) }
 {
     match target.split_once('?') {
         Some((_, query)) => Ok(Some(String::from_str(alloc, query)?)),

@@ -31,8 +31,10 @@ mod reply_stage;
 mod request;
 mod request_lines;
 mod response;
+mod retrying;
 mod scan;
 mod stage;
+mod writing;
 
 pub use cut::{Cut, Ending};
 pub use cutter::Cutter;
@@ -42,3 +44,5 @@ pub use reply_cutter::ReplyCutter;
 pub use request::{Header, Request};
 pub use request_lines::request_bytes;
 pub use response::Response;
+pub use retrying::{read_some, write_some};
+pub use writing::write_bytes;

@@ -42,15 +42,15 @@ pub struct Taken {
     pub stage: Stage,
 }
 
-/// How a stream begins.
+/// What was parsed of the beginning of a stream.
 #[derive(Drop)]
-pub enum Begun<'a> {
+pub enum Parsed<'a> {
     /// With less than a request. This is kept of it.
-    Waits(Stage),
+    Incomplete(Stage),
     /// With what is no request.
-    Broken(HttpFault),
+    Faulty(HttpFault),
     /// With a request, and these bytes come after it.
-    Whole(Request, &'a [u8]),
+    Complete(Request, &'a [u8]),
 }
 
 /// Why nothing was taken, and what is still kept.

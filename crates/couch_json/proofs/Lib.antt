@@ -16,3 +16,4 @@ pub mod Paths
 pub mod KeyOrder
 pub mod KeyCuts
 pub mod KeyReading
+pub mod LawfulParts

@@ -14,7 +14,8 @@ use Rattle.serde_json.specs.Written.{outline}
 use Rattle.couch_json.specs.Canonical.{canonical, items_texts, members_texts}
 use Rattle.couch_json.specs.Lawful.{IsLawful, AreLawfulItems, IsBefore, HasAscendingNames, AreLawfulMembers}
 use Rattle.couch_json.specs.Reading.{value_of}
-use Rattle.couch_json.specs.Said.{value_or_null, value_said, IsText, list_of_items, elements_of, elements_said, has_no_values, BeginsArray, members_of_value, members_said, has_no_members, with_last, IsBehind, BeginsObject, behind_comma}
+use Rattle.couch_json.specs.Said.{value_said, IsText, list_of_items, elements_of, elements_said, has_no_values, BeginsArray, members_of_value, members_said, has_no_members, with_last, IsBehind, BeginsObject, behind_comma}
+use Rattle.couch_json.specs.Parts.{value_or_null}
 use Rattle.couch_json.specs.Value.{Value, array, object, Members, no_members, member}
 use Rattle.couch_json.specs.View.{items_of}
 use Rattle.couch_json.specs.inner.Written.{data_of}

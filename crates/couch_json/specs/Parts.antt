@@ -6,48 +6,28 @@ use Rattle.couch_json.specs.Value.{Value, null, truth, whole, text, array, objec
 
 -- `true` or `false`
 abbrev pub truth_in : Value → Option Bool
-truth_in null = None
 truth_in (truth b) = Some b
-truth_in (whole n) = None
-truth_in (text s) = None
-truth_in (array vs) = None
-truth_in (object ms) = None
+truth_in v = None
 
 -- the number
 abbrev pub whole_in : Value → Option ℤ
-whole_in null = None
-whole_in (truth b) = None
 whole_in (whole n) = Some n
-whole_in (text s) = None
-whole_in (array vs) = None
-whole_in (object ms) = None
+whole_in v = None
 
 -- the bytes of the text
 abbrev pub text_in : Value → Option (List ℕ)
-text_in null = None
-text_in (truth b) = None
-text_in (whole n) = None
 text_in (text s) = Some s
-text_in (array vs) = None
-text_in (object ms) = None
+text_in v = None
 
 -- the elements of the array
 abbrev pub items_in : Value → Option Items
-items_in null = None
-items_in (truth b) = None
-items_in (whole n) = None
-items_in (text s) = None
 items_in (array vs) = Some vs
-items_in (object ms) = None
+items_in v = None
 
 -- the members of the object
 abbrev pub members_in : Value → Option Members
-members_in null = None
-members_in (truth b) = None
-members_in (whole n) = None
-members_in (text s) = None
-members_in (array vs) = None
 members_in (object ms) = Some ms
+members_in v = None
 
 -- the value is true or false
 abbrev pub is_truth : Value → Bool
@@ -68,6 +48,11 @@ is_array v = is_some (items_in v)
 -- it is an object
 abbrev pub is_object : Value → Bool
 is_object v = is_some (members_in v)
+
+-- a value, or null where there is none
+abbrev pub value_or_null : Option Value → Value
+value_or_null None = null
+value_or_null (Some v) = v
 
 -- there is one, and it passes the test
 abbrev pub is_there_and : {A : Type 0} → (A → Bool) → Option A → Bool

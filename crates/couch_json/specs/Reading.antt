@@ -55,3 +55,8 @@ reading bytes = if nests_too_deep bytes then Err Depth else value_or_fault (data
 -- what serde_json would read with another limit on depth than its own
 abbrev pub data_read_within : ℕ → List ℕ → Option serde.Data
 data_read_within limit bytes = option_and_then of_json (option_and_then (λ p. if_last p.0 p.1) (json.value limit (tokens bytes)))
+
+-- the value that was read, if it could be
+abbrev pub value_read : Result Value JsonFault → Option Value
+value_read (Ok v) = Some v
+value_read (Err fault) = None

@@ -1,6 +1,6 @@
 -- What a text says: the value whose canonical text it is; the elements of an array, or the members of an object, that is not closed yet.
 -- This crate's own: it ties texts of the code to `Canonical`, by the reading of `Reading` with no limit on depth.
-use Rattle.std.specs.Prelude.{◌≡◌, ℕ, List, [], ◌∷◌, ◌++◌, Bool, true, false, Option, Some, None, option_and_then, length, codes, ⊤}
+use Rattle.std.specs.Prelude.{◌≡◌, ℕ, List, [], ◌∷◌, ◌++◌, Bool, true, false, option_and_then, length, codes, ⊤}
 use Rattle.std.specs.declared.cmp.Ordering.TheVariants.{Less}
 use Rattle.std.specs.Ordering.{nat_cmp}
 use Rattle.std.specs.Cmp.Lexicographic.{slice_cmp}
@@ -8,13 +8,10 @@ use Rattle.std.specs.List.{join_with_byte}
 use Rattle.json.specs.Lex.{tokens}
 use Rattle.couch_json.specs.Canonical.{canonical, items_texts, members_texts}
 use Rattle.couch_json.specs.Lawful.{IsLawful, AreLawfulItems}
+use Rattle.couch_json.specs.Parts.{value_or_null}
 use Rattle.couch_json.specs.Reading.{data_read_within, value_of}
-use Rattle.couch_json.specs.Value.{Value, null, array, object, Items, no_items, item, Members, no_members, member}
+use Rattle.couch_json.specs.Value.{Value, array, object, Items, no_items, item, Members, no_members, member}
 use Rattle.couch_json.specs.View.{items_of}
-
-abbrev pub value_or_null : Option Value → Value
-value_or_null None = null
-value_or_null (Some v) = v
 
 -- the value that the bytes are the text of, as deep as there are tokens
 unfoldable pub value_said : List ℕ → Value

@@ -62,9 +62,5 @@ put_all (member name v ms) found = put_all ms (put name v found)
 
 -- the value's member of this name, where it is an object that has one
 abbrev pub member_of : Value → List ℕ → Option Value
-member_of null name = None
-member_of (truth b) name = None
-member_of (whole n) name = None
-member_of (text s) name = None
-member_of (array vs) name = None
 member_of (object ms) name = member_at name ms
+member_of v name = None

@@ -1,19 +1,16 @@
 -- What is owed, act by act, within its bound.
 use Rattle.std.proofs.Common.{◌≡◌, inl, inr, ℕ, ◌≤◌, Bool, true, false, cond, List, [], ◌∷◌, ◌++◌, length, Option, Some, None, sym, ap, subst, arith}
 use Rattle.std.specs.BTreeMap.{is_at}
-use Rattle.std.specs.FinMap.{FinMap, empty, get, insert, remove}
+use Rattle.std.specs.FinMap.{FinMap, empty, get, get-empty, insert, remove}
 use Rattle.std.specs.Ordering.{nat_cmp}
 use Rattle.std.proofs.lemmas.List.{length-append}
 use Rattle.store.specs.declared.store.Store.{Ghosts}
 use Rattle.hub.specs.Arrival.{Piece}
-use Rattle.hub.specs.Feeding.{HubState}
 use Rattle.engine.specs.Acts.{Act, accepted, opened, brought, took, closed}
 use Rattle.engine.specs.Bound.{OwesWithinBound}
-use Rattle.engine.specs.Desks.{Desk, Does, Runs}
-use Rattle.engine.specs.Moves.{IsSet}
-use Rattle.engine.specs.Standing.{Owes, Standing, TakesPiece, ending, given_up, greatest_owed, owed_by, serving, with_owed}
-use Rattle.engine.proofs.Deeds.{set_insert, set_remove}
-use Rattle.engine.proofs.Steps.{none_stands}
+use Rattle.engine.specs.Desks.{Deed, Desk, Does, Runs}
+use Rattle.engine.specs.Standing.{Owes, Seat, Standing, TakesPiece, ending, given_up, greatest_owed, owed_by, serving, with_owed}
+use Rattle.engine.proofs.Standings.{IsSet, set_insert, set_remove}
 use Rattle.engine.proofs.Takings.{left_owed}
 
 abbrev IsBounded : Option Standing → Type 0
@@ -49,15 +46,13 @@ left_bounded s bytes left is le =
     omega (arith, whole, parts, rest, le)
 
 module _ {S : Type 0} (g : Ghosts S) where
-  piece_bounded : (c : ℕ) (old new : HubState S) (was now : Standing) (piece words : List ℕ) → TakesPiece g c old was piece words new now
-      → length (owed_by now) ≤ greatest_owed
-  piece_bounded c old new (serving []) now piece words (inl (list, last, feeds, is, owes)) = owes_bounded now last words owes
-  piece_bounded c old new (serving []) now piece words (inr (is, said, owes)) = owes_bounded now true words owes
-  piece_bounded c old new (serving (b ∷ bs)) now piece words t = absurd t
-  piece_bounded c old new (ending []) now piece words (said, is, stands) =
-      let none : length (owed_by now) ≡ 0 = ap (λ (s : Standing). length (owed_by s)) stands in omega (arith, none)
-  piece_bounded c old new (ending (b ∷ bs)) now piece words t = absurd t
-  piece_bounded c old new given_up now piece words t = absurd t
+  piece_bounded : (old new : Seat S) (p : Piece) (words : List ℕ) → TakesPiece g old p words new → length (owed_by new.standing) ≤ greatest_owed
+  piece_bounded old new p words (inl feeds) = owes_bounded new.standing feeds.last words feeds.owes
+  piece_bounded old new p words (inr (inl refuses)) = owes_bounded new.standing true words refuses.owes
+  piece_bounded old new p words (inr (inr (stood, said, is))) =
+      let still = ap (λ (s : Seat S). length (owed_by s.standing)) is in
+      let none : length (owed_by old.standing) ≡ 0 = ap (λ (s : Standing). length (owed_by s)) stood in
+      omega (arith, still, none)
 
   does_bounded : (old new : Desk S) (a : Act) (words : List ℕ) → Does g old a words new → AreBounded old.standings → AreBounded new.standings
   does_bounded old new accepted words (said, is) there = subst (λ (d : Desk S). AreBounded d.standings) (sym is) there
@@ -67,20 +62,19 @@ module _ {S : Type 0} (g : Ghosts S) where
   does_bounded old new (closed c) words (said, is) there =
       subst (λ (d : Desk S). AreBounded d.standings) (sym is)
       (bounded_set old.standings (remove old.standings c) c None (set_remove old.standings c) bounded_none there)
-  does_bounded old new (brought c piece) words (was, now, at, takes, is) there =
-      subst (λ (m : FinMap nat_cmp Standing). AreBounded m) (sym is)
-      (bounded_set old.standings (insert old.standings c now) c (Some now) (set_insert old.standings c now)
-      (bounded_some now (piece_bounded c old.hub new.hub was now piece words takes)) there)
+  does_bounded old new (brought c bytes) words (was, now, at, takes, is) there =
+      subst (λ (d : Desk S). AreBounded d.standings) (sym is)
+      (bounded_set old.standings (insert old.standings c now.standing) c (Some now.standing) (set_insert old.standings c now.standing)
+      (bounded_some now.standing (piece_bounded (record { hub = old.hub; standing = was }) now (record { conn = c; bytes = bytes }) words takes)) there)
   does_bounded old new (took c bytes) words (was, left, at, owed, said, is) there =
       subst (λ (d : Desk S). AreBounded d.standings) (sym is)
       (bounded_set old.standings (insert old.standings c (with_owed was left)) c (Some (with_owed was left)) (set_insert old.standings c (with_owed was left))
       (bounded_some (with_owed was left) (left_bounded was bytes left owed (there c was at))) there)
 
-  runs_bounded : (old new : Desk S) (acts : List Act) (said : List Piece) → Runs g old acts said new → AreBounded old.standings → AreBounded new.standings
-  runs_bounded old new [] said (none, is) there = subst (λ (d : Desk S). AreBounded d.standings) (sym is) there
-  runs_bounded old new (a ∷ acts) said (words, others, between, does, rest, is) there =
-      runs_bounded between new acts others rest (does_bounded old between a words does there)
+  runs_bounded : (old new : Desk S) (deeds : List Deed) → Runs g old deeds new → AreBounded old.standings → AreBounded new.standings
+  runs_bounded old new [] is there = subst (λ (d : Desk S). AreBounded d.standings) (sym is) there
+  runs_bounded old new (d ∷ deeds) (between, does, rest) there = runs_bounded between new deeds rest (does_bounded old between d.act d.words does there)
 
   pub owes_all_bounded : OwesWithinBound g
-  owes_all_bounded hub acts said new conn s runs at =
-      runs_bounded (record { hub = hub; standings = empty }) new acts said runs (λ q. subst (λ (o : Option Standing). IsBounded o) (sym (none_stands q)) bounded_none) conn s at
+  owes_all_bounded hub deeds new conn s runs at =
+      runs_bounded (record { hub = hub; standings = empty }) new deeds runs (λ q. subst (λ (o : Option Standing). IsBounded o) (sym (get-empty nat_cmp q)) bounded_none) conn s at

@@ -1,7 +1,7 @@
 -- What was fed, piece by piece, and what it brings.
 use Rattle.std.proofs.Common.{◌≡◌, ◌≢◌, ◌∙◌, ◌⊎◌, inl, inr, ℕ, ◌+◌, ◌≤◌, ◌<◌, ◌==◌, ◌&&◌, Bool, true, false, cond, List, [], ◌∷◌, ◌++◌, map, Option, Some, None, is_some, refl, sym, ap, ap₂, subst, append_assoc, append-nil, arith, nat_le, true≢false}
 use Rattle.std.specs.Cmp.{nat_cmp_total}
-use Rattle.std.specs.FinMap.{FinMap, empty, get, get-insert, gets, insert, remove}
+use Rattle.std.specs.FinMap.{FinMap, empty, get, get-empty, get-insert, gets, insert, remove}
 use Rattle.std.specs.Ordering.{eq_by_cmp, nat_cmp}
 use Rattle.std.proofs.lemmas.Bool.{cases_eq}
 use Rattle.std.proofs.lemmas.Bool.Decides.{nat_tests}
@@ -18,21 +18,20 @@ use Rattle.node.specs.Step.{Serving}
 use Rattle.hub.proofs.Arrivals.{rest_other, rest_same}
 use Rattle.hub.proofs.ServiceLemmas.{ended_here, was_open}
 use Rattle.hub.proofs.Serving.{serves_none, serves_then}
-use Rattle.hub.specs.Answering.{Serves, replies_of}
+use Rattle.hub.specs.Answering.{RepliesInOrder, replies_of}
 use Rattle.hub.specs.Arrival.{Arrival, Arrives, Piece, fault_between, fault_on, request_on, stream_of}
 use Rattle.hub.specs.Connections.{ConnectionTable, is_open, next_connection, rest_on, was_opened, with_connection, with_rest, without}
 use Rattle.hub.specs.Endings.{last_replies, rest_of}
-use Rattle.hub.specs.Feeding.{HubState}
+use Rattle.hub.specs.Feeding.{HubState, IsFed}
 use Rattle.hub.specs.Service.{bytes_of, farewell, hub_without}
 use Rattle.engine.specs.Acts.{Act, accepted, opened, brought, took, closed, conn_of}
-use Rattle.engine.specs.Desks.{Desk, Does, Runs}
-use Rattle.engine.specs.Order.{HandlesInOrder, fed_in, requests_of}
+use Rattle.engine.specs.Desks.{Deed, Desk, Does, Runs, said_in}
+use Rattle.engine.specs.Order.{HandlesInOrder, fed_by, fed_in, requests_of}
 use Rattle.engine.specs.Saying.{IsSaid, SaysInOrder, replies_on}
-use Rattle.engine.specs.Standing.{Feeds, Owes, Standing, TakesPiece, ending, given_up, serving, with_owed}
-use Rattle.engine.proofs.Deeds.{set_here, set_insert, set_remove}
+use Rattle.engine.specs.Standing.{Owes, Seat, Standing, TakesPiece, ending, given_up, serving, with_owed}
 use Rattle.engine.proofs.Keeping.{runs_keep}
-use Rattle.engine.proofs.Steps.{none_stands}
-use Rattle.engine.proofs.Takings.{nothing, own, other, piece_opened, rest_opened, set_other, without_opened}
+use Rattle.engine.proofs.Standings.{insert_here, insert_other, remove_here, remove_other}
+use Rattle.engine.proofs.Takings.{nothing, own, other, piece_opened, rest_opened, without_opened}
 
 -- ---- arrivals
 
@@ -67,14 +66,13 @@ stream_other ps p conn apart = stream_push ps p conn ∙ ap (λ (xs : List ℕ).
 abbrev Says : List Piece → List Arrival → List Reply → Type 0
 Says said arrivals replies = (conn : ℕ) → IsSaid (stream_of said conn) (replies_on conn arrivals replies)
 
-says_nothing : (said : List Piece) → said ≡ [] → Says said [] []
-says_nothing said none conn = inl (ap (λ (ps : List Piece). stream_of ps conn) none)
+says_nothing : Says [] [] []
+says_nothing conn = inl refl
 
-says_quiet : (said others : List Piece) (arrivals : List Arrival) (replies : List Reply) (c : ℕ) (words : List ℕ) → said ≡ record { conn = c; bytes = words } ∷ others → words ≡ []
-    → Says others arrivals replies → Says said arrivals replies
-says_quiet said others arrivals replies c words is none says conn =
-    subst (λ (xs : List ℕ). IsSaid xs (replies_on conn arrivals replies))
-    (sym (ap (λ (ps : List Piece). stream_of ps conn) is ∙ ap (λ (xs : List ℕ). xs ++ stream_of others conn) (nothing (c == conn) words none))) (says conn)
+says_quiet : (others : List Piece) (arrivals : List Arrival) (replies : List Reply) (c : ℕ) (words : List ℕ) → words ≡ [] → Says others arrivals replies
+    → Says (record { conn = c; bytes = words } ∷ others) arrivals replies
+says_quiet others arrivals replies c words none says conn =
+    subst (λ (xs : List ℕ). IsSaid xs (replies_on conn arrivals replies)) (sym (ap (λ (xs : List ℕ). xs ++ stream_of others conn) (nothing (c == conn) words none))) (says conn)
 
 mine_none : {A : Type 0} (b : Bool) (xs : List A) → xs ≡ cond b [] [] ++ xs
 mine_none true xs = refl
@@ -120,10 +118,10 @@ replies_fed conn c steps messages answers rest end arrivals replies requests is 
     ∙ sym (append_assoc (cond (c == conn) answers []) (cond (c == conn) (last_replies end) []) (replies_on conn arrivals replies))
     ∙ ap (λ (rs : List Reply). rs ++ replies_on conn arrivals replies) (mine_more (c == conn) answers (last_replies end))
 
-says_fed : {S : Type 0} (said others : List Piece) (arrivals : List Arrival) (replies : List Reply) (c : ℕ) (words : List ℕ) (list : List Reply) (messages : List Message) (answers : List Reply) (rest : List ℕ) (end : StreamEnd)
-    (steps : List (Stepped S)) → said ≡ record { conn = c; bytes = words } ∷ others → words ≡ bytes_of list → list ≡ answers ++ last_replies end → messages_of steps ≡ messages → replies_of steps ≡ answers
-    → Says others arrivals replies → Says said ((map (request_on c) messages ++ fault_between c (unfinished rest) end) ++ arrivals) (answers ++ replies)
-says_fed said others arrivals replies c words list messages answers rest end steps is told lists requests served says conn = by (says conn)
+says_fed : {S : Type 0} (others : List Piece) (arrivals : List Arrival) (replies : List Reply) (c : ℕ) (words : List ℕ) (list : List Reply) (messages : List Message) (answers : List Reply) (rest : List ℕ) (end : StreamEnd)
+    (steps : List (Stepped S)) → words ≡ bytes_of list → list ≡ answers ++ last_replies end → messages_of steps ≡ messages → replies_of steps ≡ answers → Says others arrivals replies
+    → Says (record { conn = c; bytes = words } ∷ others) ((map (request_on c) messages ++ fault_between c (unfinished rest) end) ++ arrivals) (answers ++ replies)
+says_fed others arrivals replies c words list messages answers rest end steps told lists requests served says conn = by (says conn)
   where
     mine : List Reply
     mine = cond (c == conn) (answers ++ last_replies end) []
@@ -131,14 +129,14 @@ says_fed said others arrivals replies c words list messages answers rest end ste
     first : cond (c == conn) words [] ≡ bytes_of mine
     first = ap (λ (xs : List ℕ). cond (c == conn) xs []) (told ∙ ap bytes_of lists) ∙ sym (mine_bytes (c == conn) (answers ++ last_replies end))
 
-    stream : stream_of said conn ≡ bytes_of mine ++ stream_of others conn
-    stream = ap (λ (ps : List Piece). stream_of ps conn) is ∙ ap (λ (xs : List ℕ). xs ++ stream_of others conn) first
+    stream : cond (c == conn) words [] ++ stream_of others conn ≡ bytes_of mine ++ stream_of others conn
+    stream = ap (λ (xs : List ℕ). xs ++ stream_of others conn) first
 
     whole : bytes_of (replies_on conn ((map (request_on c) messages ++ fault_between c (unfinished rest) end) ++ arrivals) (answers ++ replies)) ≡ bytes_of mine ++ bytes_of (replies_on conn arrivals replies)
     whole = ap bytes_of (replies_fed conn c steps messages answers rest end arrivals replies requests served) ∙ bytes_more mine (replies_on conn arrivals replies)
 
     by : IsSaid (stream_of others conn) (replies_on conn arrivals replies)
-        → IsSaid (stream_of said conn) (replies_on conn ((map (request_on c) messages ++ fault_between c (unfinished rest) end) ++ arrivals) (answers ++ replies))
+        → IsSaid (cond (c == conn) words [] ++ stream_of others conn) (replies_on conn ((map (request_on c) messages ++ fault_between c (unfinished rest) end) ++ arrivals) (answers ++ replies))
     by (inl e) = inl (stream ∙ ap (λ (xs : List ℕ). bytes_of mine ++ xs) e ∙ sym whole)
     by (inr e) =
         inr (stream ∙ ap (λ (xs : List ℕ). bytes_of mine ++ xs) e ∙ sym (append_assoc (bytes_of mine) (bytes_of (replies_on conn arrivals replies)) farewell)
@@ -153,19 +151,16 @@ none_before bytes rs none (inl e) = sym e ∙ none
 none_before bytes rs none (inr e) = no_front (bytes_of rs) farewell (sym e ∙ none)
 
 -- the hub refused a piece, and nothing is said behind the farewell
-says_farewell : (said others : List Piece) (arrivals : List Arrival) (replies : List Reply) (c : ℕ) (words : List ℕ) → said ≡ record { conn = c; bytes = words } ∷ others → words ≡ farewell → stream_of others c ≡ []
-    → Says others arrivals replies → Says said arrivals replies
-says_farewell said others arrivals replies c words is told none says conn = by (cases_eq conn c)
+says_farewell : (others : List Piece) (arrivals : List Arrival) (replies : List Reply) (c : ℕ) (words : List ℕ) → words ≡ farewell → stream_of others c ≡ [] → Says others arrivals replies
+    → Says (record { conn = c; bytes = words } ∷ others) arrivals replies
+says_farewell others arrivals replies c words told none says conn = by (cases_eq conn c)
   where
-    stream : stream_of said conn ≡ cond (c == conn) words [] ++ stream_of others conn
-    stream = ap (λ (ps : List Piece). stream_of ps conn) is
-
-    by : (conn ≡ c) ⊎ (conn ≢ c) → IsSaid (stream_of said conn) (replies_on conn arrivals replies)
+    by : (conn ≡ c) ⊎ (conn ≢ c) → IsSaid (cond (c == conn) words [] ++ stream_of others conn) (replies_on conn arrivals replies)
     by (inl same) =
         let nothing_more : stream_of others conn ≡ [] = ap (λ (k : ℕ). stream_of others k) same ∙ none in
         let unsaid : bytes_of (replies_on conn arrivals replies) ≡ [] = none_before (stream_of others conn) (replies_on conn arrivals replies) nothing_more (says conn) in
-        inr (stream ∙ ap₂ (λ (xs ys : List ℕ). xs ++ ys) (own c conn words (sym same) ∙ told) nothing_more ∙ append-nil farewell ∙ ap (λ (xs : List ℕ). xs ++ farewell) (sym unsaid))
-    by (inr apart) = subst (λ (xs : List ℕ). IsSaid xs (replies_on conn arrivals replies)) (sym (stream ∙ ap (λ (xs : List ℕ). xs ++ stream_of others conn) (other c conn words apart))) (says conn)
+        inr (ap₂ (λ (xs ys : List ℕ). xs ++ ys) (own c conn words (sym same) ∙ told) nothing_more ∙ append-nil farewell ∙ ap (λ (xs : List ℕ). xs ++ farewell) (sym unsaid))
+    by (inr apart) = subst (λ (xs : List ℕ). IsSaid xs (replies_on conn arrivals replies)) (sym (ap (λ (xs : List ℕ). xs ++ stream_of others conn) (other c conn words apart))) (says conn)
 
 -- ---- rests
 
@@ -224,7 +219,7 @@ module _ {S : Type 0} (g : Ghosts S) where
       stands : (k : ℕ) (s : Standing) → get (insert old.standings c (serving [])) k ≡ Some s → (k ≡ c) ⊎ (k ≢ c) → k ≤ old.hub.connections.opened + 1
       stands k s at (inl same) = omega (arith, same, next)
       stands k s at (inr apart) =
-          let le = held.given k s (sym (set_other old.standings (insert old.standings c (serving [])) c k (Some (serving [])) (set_insert old.standings c (serving [])) apart) ∙ at) in
+          let le = held.given k s (sym (insert_other old.standings c k (serving []) apart) ∙ at) in
           omega (arith, le)
 
       here : (k : ℕ) (s : Standing) (rest : List ℕ) → get (insert old.standings c (serving [])) k ≡ Some s → rest_on (with_connection old.hub.connections) k ≡ Some rest → (k ≡ c) ⊎ (k ≢ c)
@@ -235,7 +230,7 @@ module _ {S : Type 0} (g : Ghosts S) where
           let is_empty : rest ≡ [] = cc in
           ([], rw (none, is_empty) (Begins-nothing, refl))
       here k s rest at on (inr apart) =
-          held.known k s rest (sym (set_other old.standings (insert old.standings c (serving [])) c k (Some (serving [])) (set_insert old.standings c (serving [])) apart) ∙ at)
+          held.known k s rest (sym (insert_other old.standings c k (serving []) apart) ∙ at)
           (sym (new_other old.hub.connections k (λ e. apart (e ∙ sym next))) ∙ on)
 
   -- where the hub lets a connection go
@@ -270,50 +265,50 @@ module _ {S : Type 0} (g : Ghosts S) where
       stands : (k : ℕ) (s : Standing) → get new.standings k ≡ Some s → (k ≡ c) ⊎ (k ≢ c) → k ≤ old.hub.connections.opened
       stands k s here (inl eq) = let le = held.given c was at in omega (arith, eq, le)
       stands k s here (inr apart) =
-          held.given k s (sym (ap (λ (m : FinMap nat_cmp Standing). get m k) is ∙ set_other old.standings (insert old.standings c now) c k (Some now) (set_insert old.standings c now) apart) ∙ here)
+          held.given k s (sym (ap (λ (m : FinMap nat_cmp Standing). get m k) is ∙ insert_other old.standings c k now apart) ∙ here)
 
       by : (k : ℕ) (s : Standing) (rest : List ℕ) → get new.standings k ≡ Some s → rest_on old.hub.connections k ≡ Some rest → (k ≡ c) ⊎ (k ≢ c)
           → (ms : List Message) × Cuts (stream_of earlier k) ms (unfinished rest)
       by k s rest here on (inl eq) = held.known k was rest (ap (λ (q : ℕ). get old.standings q) eq ∙ at) on
       by k s rest here on (inr apart) =
-          held.known k s rest (sym (ap (λ (m : FinMap nat_cmp Standing). get m k) is ∙ set_other old.standings (insert old.standings c now) c k (Some now) (set_insert old.standings c now) apart) ∙ here) on
+          held.known k s rest (sym (ap (λ (m : FinMap nat_cmp Standing). get m k) is ∙ insert_other old.standings c k now apart) ∙ here) on
 
   -- where a piece was fed
   held_fed : (old new : Desk S) (earlier : List Piece) (c : ℕ) (was now : Standing) (piece : List ℕ) (list : List Reply) (last : Bool) → Held old earlier
-      → Feeds g old.hub c piece list last new.hub → get old.standings c ≡ Some was → new.standings ≡ insert old.standings c now
+      → IsFed g old.hub c piece list last new.hub → get old.standings c ≡ Some was → new.standings ≡ insert old.standings c now
       → Held new (earlier ++ record { conn = c; bytes = piece } ∷ [])
-  held_fed old new earlier c was now piece list last held feeds at is = record {
-    known = λ k s rest here on. by k s rest here (sym (ap (λ (t : ConnectionTable). rest_on t k) feeds.fed.left) ∙ on) (cases_eq k c);
-    fresh = λ k lt. let e = ap (λ (t : ConnectionTable). t.opened) feeds.fed.left ∙ rest_opened old.hub.connections c (rest_of feeds.fed.end) in
+  held_fed old new earlier c was now piece list last held fed at is = record {
+    known = λ k s rest here on. by k s rest here (sym (ap (λ (t : ConnectionTable). rest_on t k) fed.left) ∙ on) (cases_eq k c);
+    fresh = λ k lt. let e = ap (λ (t : ConnectionTable). t.opened) fed.left ∙ rest_opened old.hub.connections c (rest_of fed.end) in
         let under : old.hub.connections.opened < k = omega (arith, e, lt) in
-        stream_other earlier (record { conn = c; bytes = piece }) k (λ eq. not_given old.hub.connections c feeds.fed.rest feeds.fed.was (subst (λ (q : ℕ). old.hub.connections.opened < q) eq under)) ∙ held.fresh k under;
-    given = λ k s here. let e = ap (λ (t : ConnectionTable). t.opened) feeds.fed.left ∙ rest_opened old.hub.connections c (rest_of feeds.fed.end) in
+        stream_other earlier (record { conn = c; bytes = piece }) k (λ eq. not_given old.hub.connections c fed.rest fed.was (subst (λ (q : ℕ). old.hub.connections.opened < q) eq under)) ∙ held.fresh k under;
+    given = λ k s here. let e = ap (λ (t : ConnectionTable). t.opened) fed.left ∙ rest_opened old.hub.connections c (rest_of fed.end) in
         let le = stands k s here (cases_eq k c) in omega (arith, e, le);
   }
     where
       stands : (k : ℕ) (s : Standing) → get new.standings k ≡ Some s → (k ≡ c) ⊎ (k ≢ c) → k ≤ old.hub.connections.opened
       stands k s here (inl eq) = let le = held.given c was at in omega (arith, eq, le)
       stands k s here (inr apart) =
-          held.given k s (sym (ap (λ (m : FinMap nat_cmp Standing). get m k) is ∙ set_other old.standings (insert old.standings c now) c k (Some now) (set_insert old.standings c now) apart) ∙ here)
+          held.given k s (sym (ap (λ (m : FinMap nat_cmp Standing). get m k) is ∙ insert_other old.standings c k now apart) ∙ here)
 
-      onward : (k : ℕ) (rest : List ℕ) (end : StreamEnd) (ms ns : List Message) → rest_of end ≡ Some rest → Cuts (stream_of earlier k) ms (unfinished feeds.fed.rest) → Cuts (feeds.fed.rest ++ piece) ns end
+      onward : (k : ℕ) (rest : List ℕ) (end : StreamEnd) (ms ns : List Message) → rest_of end ≡ Some rest → Cuts (stream_of earlier k) ms (unfinished fed.rest) → Cuts (fed.rest ++ piece) ns end
           → (l : List Message) × Cuts (stream_of earlier k ++ piece) l (unfinished rest)
       onward k rest (unfinished left) ms ns e before cuts =
           let same : left ≡ rest = cc in
-          (ms ++ ns, subst (λ (r : List ℕ). Cuts (stream_of earlier k ++ piece) (ms ++ ns) (unfinished r)) same (Cuts-append (stream_of earlier k) piece ms ns feeds.fed.rest (unfinished left) before cuts))
+          (ms ++ ns, subst (λ (r : List ℕ). Cuts (stream_of earlier k ++ piece) (ms ++ ns) (unfinished r)) same (Cuts-append (stream_of earlier k) piece ms ns fed.rest (unfinished left) before cuts))
       onward k rest ended ms ns e before cuts = absurd cc
       onward k rest (faulty f) ms ns e before cuts = absurd cc
 
-      by : (k : ℕ) (s : Standing) (rest : List ℕ) → get new.standings k ≡ Some s → rest_on (with_rest old.hub.connections c (rest_of feeds.fed.end)) k ≡ Some rest → (k ≡ c) ⊎ (k ≢ c)
+      by : (k : ℕ) (s : Standing) (rest : List ℕ) → get new.standings k ≡ Some s → rest_on (with_rest old.hub.connections c (rest_of fed.end)) k ≡ Some rest → (k ≡ c) ⊎ (k ≢ c)
           → (ms : List Message) × Cuts (stream_of (earlier ++ record { conn = c; bytes = piece } ∷ []) k) ms (unfinished rest)
       by k s rest here on (inl eq) =
-          let left : rest_of feeds.fed.end ≡ Some rest = sym (rest_same old.hub.connections c feeds.fed.rest (rest_of feeds.fed.end) feeds.fed.was) ∙ ap (λ (q : ℕ). rest_on (with_rest old.hub.connections c (rest_of feeds.fed.end)) q) (sym eq) ∙ on in
-          let before = held.known k was feeds.fed.rest (ap (λ (q : ℕ). get old.standings q) eq ∙ at) (ap (λ (q : ℕ). rest_on old.hub.connections q) eq ∙ feeds.fed.was) in
-          let after = onward k rest feeds.fed.end before.0 feeds.fed.messages left before.1 feeds.fed.cuts in
+          let left : rest_of fed.end ≡ Some rest = sym (rest_same old.hub.connections c fed.rest (rest_of fed.end) fed.was) ∙ ap (λ (q : ℕ). rest_on (with_rest old.hub.connections c (rest_of fed.end)) q) (sym eq) ∙ on in
+          let before = held.known k was fed.rest (ap (λ (q : ℕ). get old.standings q) eq ∙ at) (ap (λ (q : ℕ). rest_on old.hub.connections q) eq ∙ fed.was) in
+          let after = onward k rest fed.end before.0 fed.messages left before.1 fed.cuts in
           (after.0, subst (λ (l : List ℕ). Cuts l after.0 (unfinished rest)) (sym (stream_own earlier (record { conn = c; bytes = piece }) k eq)) after.1)
       by k s rest here on (inr apart) =
-          let before = held.known k s rest (sym (ap (λ (m : FinMap nat_cmp Standing). get m k) is ∙ set_other old.standings (insert old.standings c now) c k (Some now) (set_insert old.standings c now) apart) ∙ here)
-          (sym (rest_other old.hub.connections c k (rest_of feeds.fed.end) apart) ∙ on) in
+          let before = held.known k s rest (sym (ap (λ (m : FinMap nat_cmp Standing). get m k) is ∙ insert_other old.standings c k now apart) ∙ here)
+          (sym (rest_other old.hub.connections c k (rest_of fed.end) apart) ∙ on) in
           (before.0, subst (λ (l : List ℕ). Cuts l before.0 (unfinished rest)) (sym (stream_other earlier (record { conn = c; bytes = piece }) k apart)) before.1)
 
   -- ---- what is said
@@ -338,7 +333,7 @@ module _ {S : Type 0} (g : Ghosts S) where
     record {
       still = let e = ap (λ (d : Desk S). d.hub.connections.opened) is in let le = q.still in omega (arith, e, le);
       unserved = λ owed at. q.unserved owed (sym (ap (λ (d : Desk S). get d.standings conn) is
-          ∙ set_other old.standings (insert old.standings c (serving [])) c conn (Some (serving [])) (set_insert old.standings c (serving [])) (λ e. let le = q.still in omega (arith, e, next, le))) ∙ at);
+          ∙ insert_other old.standings c conn (serving []) (λ e. let le = q.still in omega (arith, e, next, le))) ∙ at);
     },
     nothing (c == conn) words said,
   )
@@ -352,8 +347,8 @@ module _ {S : Type 0} (g : Ghosts S) where
     where
       by : (owed : List ℕ) → get (remove old.standings c) conn ≡ Some (serving owed) → (conn ≡ c) ⊎ (conn ≢ c) → ⊥
       by owed at (inl same) =
-          let gone : None ≡ Some (serving owed) = sym (ap (λ (k : ℕ). get (remove old.standings c) k) same ∙ set_here old.standings (remove old.standings c) c None (set_remove old.standings c)) ∙ at in cc
-      by owed at (inr apart) = q.unserved owed (sym (set_other old.standings (remove old.standings c) c conn None (set_remove old.standings c) apart) ∙ at)
+          let gone : None ≡ Some (serving owed) = sym (ap (λ (k : ℕ). get (remove old.standings c) k) same ∙ remove_here old.standings c) ∙ at in cc
+      by owed at (inr apart) = q.unserved owed (sym (remove_other old.standings c conn apart) ∙ at)
   quiet_does conn old new (took c bytes) words q (was, left, at, owed, said, is) = (
     record {
       still = let e = ap (λ (d : Desk S). d.hub.connections.opened) is in let le = q.still in omega (arith, e, le);
@@ -365,49 +360,54 @@ module _ {S : Type 0} (g : Ghosts S) where
       by : (o : List ℕ) → get (insert old.standings c (with_owed was left)) conn ≡ Some (serving o) → (conn ≡ c) ⊎ (conn ≢ c) → ⊥
       by o there (inl same) =
           not_serving was o left (λ bytes e. q.unserved bytes (ap (λ (k : ℕ). get old.standings k) same ∙ at ∙ ap Some e))
-          (some_standing (with_owed was left) (serving o) (sym (ap (λ (k : ℕ). get (insert old.standings c (with_owed was left)) k) same ∙ set_here old.standings (insert old.standings c (with_owed was left)) c (Some (with_owed was left)) (set_insert old.standings c (with_owed was left))) ∙ there))
+          (some_standing (with_owed was left) (serving o) (sym (ap (λ (k : ℕ). get (insert old.standings c (with_owed was left)) k) same ∙ insert_here old.standings c (with_owed was left)) ∙ there))
       by o there (inr apart) =
-          q.unserved o (sym (set_other old.standings (insert old.standings c (with_owed was left)) c conn (Some (with_owed was left)) (set_insert old.standings c (with_owed was left)) apart) ∙ there)
-  quiet_does conn old new (brought c piece) words q (was, now, at, takes, is) = by (cases_eq conn c)
+          q.unserved o (sym (insert_other old.standings c conn (with_owed was left) apart) ∙ there)
+  quiet_does conn old new (brought c bytes) words q (was, now, at, takes, is) = by (cases_eq conn c)
     where
-      still : conn ≤ new.hub.connections.opened
-      still = let e = piece_opened g c old.hub new.hub was now piece words takes in let le = q.still in omega (arith, e, le)
+      seat : Seat S
+      seat = record { hub = old.hub; standing = was }
 
-      passed : (x : Standing) → ((bytes : List ℕ) → x ≢ serving bytes) → TakesPiece g c old.hub x piece words new.hub now → (words ≡ []) × ((bytes : List ℕ) → now ≢ serving bytes)
-      passed (serving bytes) un t = absurd (un bytes refl)
-      passed (ending []) un (said, same, stands) = (said, λ bytes e. absurd (let x : ending [] ≡ serving bytes = sym stands ∙ e in cc))
-      passed (ending (b ∷ bs)) un t = absurd t
-      passed given_up un t = absurd t
+      piece : Piece
+      piece = record { conn = c; bytes = bytes }
+
+      still : conn ≤ new.hub.connections.opened
+      still = let e = ap (λ (d : Desk S). d.hub.connections.opened) is ∙ piece_opened g seat now piece words takes in let le = q.still in omega (arith, e, le)
+
+      passed : (x y : Seat S) → ((owed : List ℕ) → x.standing ≢ serving owed) → TakesPiece g x piece words y → (words ≡ []) × ((owed : List ℕ) → y.standing ≢ serving owed)
+      passed x y un (inl feeds) = absurd (un [] feeds.free)
+      passed x y un (inr (inl refuses)) = absurd (un [] refuses.free)
+      passed x y un (inr (inr (stood, said, same))) = (said, λ owed e. un owed (sym (ap (λ (s : Seat S). s.standing) same) ∙ e))
 
       by : (conn ≡ c) ⊎ (conn ≢ c) → IsQuiet conn new × (cond (c == conn) words [] ≡ [])
       by (inl same) =
-          let p = passed was (λ bytes e. q.unserved bytes (ap (λ (k : ℕ). get old.standings k) same ∙ at ∙ ap Some e)) takes in (
+          let p = passed seat now (λ owed e. q.unserved owed (ap (λ (k : ℕ). get old.standings k) same ∙ at ∙ ap Some e)) takes in (
             record {
               still = still;
-              unserved = λ o there. p.1 o (some_standing now (serving o) (sym (ap (λ (m : FinMap nat_cmp Standing). get m conn) is ∙ ap (λ (k : ℕ). get (insert old.standings c now) k) same ∙ set_here old.standings (insert old.standings c now) c (Some now) (set_insert old.standings c now)) ∙ there));
+              unserved = λ o there. p.1 o (some_standing now.standing (serving o) (sym (ap (λ (d : Desk S). get d.standings conn) is ∙ ap (λ (k : ℕ). get (insert old.standings c now.standing) k) same ∙ insert_here old.standings c now.standing) ∙ there));
             },
             nothing (c == conn) words p.0,
           )
       by (inr apart) = (
         record {
           still = still;
-          unserved = λ o there. q.unserved o (sym (ap (λ (m : FinMap nat_cmp Standing). get m conn) is ∙ set_other old.standings (insert old.standings c now) c conn (Some now) (set_insert old.standings c now) apart) ∙ there);
+          unserved = λ o there. q.unserved o (sym (ap (λ (d : Desk S). get d.standings conn) is ∙ insert_other old.standings c conn now.standing apart) ∙ there);
         },
         other c conn words apart,
       )
 
-  quiet_says : (conn : ℕ) (old new : Desk S) (acts : List Act) (said : List Piece) → IsQuiet conn old → Runs g old acts said new → stream_of said conn ≡ []
-  quiet_says conn old new [] said q (none, is) = ap (λ (ps : List Piece). stream_of ps conn) none
-  quiet_says conn old new (a ∷ acts) said q (words, others, between, does, rest, is) =
-      let first = quiet_does conn old between a words q does in
-      ap (λ (ps : List Piece). stream_of ps conn) is ∙ ap (λ (xs : List ℕ). xs ++ stream_of others conn) first.1 ∙ quiet_says conn between new acts others first.0 rest
+  quiet_says : (conn : ℕ) (old new : Desk S) (deeds : List Deed) → IsQuiet conn old → Runs g old deeds new → stream_of (said_in deeds) conn ≡ []
+  quiet_says conn old new [] q is = refl
+  quiet_says conn old new (d ∷ deeds) q (between, does, rest) =
+      let first = quiet_does conn old between d.act d.words q does in
+      ap (λ (xs : List ℕ). xs ++ stream_of (said_in deeds) conn) first.1 ∙ quiet_says conn between new deeds first.0 rest
 
   -- so it is where the hub refused a piece
-  refused_quiet : (c : ℕ) (old new : HubState S) → new ≡ hub_without c old → c ≤ old.connections.opened → (now : Standing) (m k : FinMap nat_cmp Standing) → m ≡ insert k c now → Owes now true farewell
-      → IsQuiet c (record { hub = new; standings = m })
-  refused_quiet c old new is le now m k made owes = record {
-    still = let e = ap (λ (h : HubState S). h.connections.opened) is ∙ without_opened old.connections c in omega (arith, e, le);
-    unserved = λ o there. by now owes o (some_standing now (serving o) (sym (ap (λ (x : FinMap nat_cmp Standing). get x c) made ∙ set_here k (insert k c now) c (Some now) (set_insert k c now)) ∙ there));
+  refused_quiet : (old new : Desk S) (c : ℕ) (now : Seat S) → now.hub ≡ hub_without c old.hub → c ≤ old.hub.connections.opened
+      → new ≡ record { hub = now.hub; standings = insert old.standings c now.standing } → Owes now.standing true farewell → IsQuiet c new
+  refused_quiet old new c now gone le is owes = record {
+    still = let e = ap (λ (d : Desk S). d.hub.connections.opened) is ∙ ap (λ (h : HubState S). h.connections.opened) gone ∙ without_opened old.hub.connections c in omega (arith, e, le);
+    unserved = λ o there. by now.standing owes o (some_standing now.standing (serving o) (sym (ap (λ (d : Desk S). get d.standings c) is ∙ insert_here old.standings c now.standing) ∙ there));
   }
     where
       by : (x : Standing) → Owes x true farewell → (o : List ℕ) → x ≢ serving o
@@ -415,95 +415,114 @@ module _ {S : Type 0} (g : Ghosts S) where
       by (ending bytes) owes o e = absurd cc
       by given_up owes o e = absurd cc
 
+  -- ---- what is handled
+
   -- these pieces bring arrivals whose requests are served in order, and their replies were said
   abbrev Handled : Serving S → List Piece → List Piece → List Piece → S → Type 0
   Handled node earlier pieces said after =
-      (arrivals : List Arrival) × (replies : List Reply) × Arrives earlier pieces arrivals × Serves g node.configuration node.store (requests_of arrivals) replies after
+      (arrivals : List Arrival) × (replies : List Reply) × Arrives earlier pieces arrivals × RepliesInOrder g node.configuration node.store (requests_of arrivals) replies after
       × Says said arrivals replies
 
   -- the same behind an act by which nothing is said
-  quietly : (node : Serving S) (earlier pieces said others : List Piece) (after : S) (c : ℕ) (words : List ℕ) → said ≡ record { conn = c; bytes = words } ∷ others → words ≡ []
-      → Handled node earlier pieces others after → Handled node earlier pieces said after
-  quietly node earlier pieces said others after c words is none (arrivals, replies, arrive, serve, says) = (arrivals, replies, arrive, serve, says_quiet said others arrivals replies c words is none says)
+  quietly : (old node : Serving S) (earlier pieces others : List Piece) (after : S) (c : ℕ) (words : List ℕ) → words ≡ [] → node ≡ old → Handled node earlier pieces others after
+      → Handled old earlier pieces (record { conn = c; bytes = words } ∷ others) after
+  quietly old node earlier pieces others after c words none same handled =
+      let (arrivals, replies, arrive, serve, says) = subst (λ (n : Serving S). Handled n earlier pieces others after) same handled in
+      (arrivals, replies, arrive, serve, says_quiet others arrivals replies c words none says)
 
-  handles : (old new : Desk S) (acts : List Act) (said : List Piece) (earlier : List Piece) (runs : Runs g old acts said new) → Held old earlier → g.is_honest new.hub.node.store
-      → Handled old.hub.node earlier (fed_in g old acts said new runs) said new.hub.node.store
-  handles old new [] said earlier (none, is) held honest =
-      ([], [], refl, subst (λ (d : Desk S). Serves g old.hub.node.configuration old.hub.node.store [] [] d.hub.node.store) (sym is) (serves_none g old.hub.node.configuration old.hub.node.store), says_nothing said none)
-  handles old new (accepted ∷ acts) said earlier (words, others, between, (quiet, is), rest, all) held honest =
-      quietly old.hub.node earlier (fed_in g between acts others new rest) said others new.hub.node.store 0 words all quiet
-      (subst (λ (n : Serving S). Handled n earlier (fed_in g between acts others new rest) others new.hub.node.store) (ap (λ (d : Desk S). d.hub.node) is)
-      (handles between new acts others earlier rest (subst (λ (d : Desk S). Held d earlier) (sym is) held) honest))
-  handles old new (opened c ∷ acts) said earlier (words, others, between, (quiet, next, is), rest, all) held honest =
-      quietly old.hub.node earlier (fed_in g between acts others new rest) said others new.hub.node.store c words all quiet
-      (subst (λ (n : Serving S). Handled n earlier (fed_in g between acts others new rest) others new.hub.node.store) (ap (λ (d : Desk S). d.hub.node) is)
-      (handles between new acts others earlier rest (held_opened old between earlier c words held (quiet, next, is)) honest))
-  handles old new (closed c ∷ acts) said earlier (words, others, between, (quiet, is), rest, all) held honest =
-      quietly old.hub.node earlier (fed_in g between acts others new rest) said others new.hub.node.store c words all quiet
-      (subst (λ (n : Serving S). Handled n earlier (fed_in g between acts others new rest) others new.hub.node.store) (ap (λ (d : Desk S). d.hub.node) is)
-      (handles between new acts others earlier rest (held_gone old between earlier c held (ap (λ (d : Desk S). d.hub.connections) is)
-      (λ k apart. ap (λ (d : Desk S). get d.standings k) is ∙ set_other old.standings (remove old.standings c) c k None (set_remove old.standings c) apart)
-      (λ s at. absurd (let gone : None ≡ Some s = sym (ap (λ (d : Desk S). get d.standings c) is ∙ set_here old.standings (remove old.standings c) c None (set_remove old.standings c)) ∙ at in cc))) honest))
-  handles old new (took c bytes ∷ acts) said earlier (words, others, between, (was, left, at, owed, quiet, is), rest, all) held honest =
-      quietly old.hub.node earlier (fed_in g between acts others new rest) said others new.hub.node.store c words all quiet
-      (subst (λ (n : Serving S). Handled n earlier (fed_in g between acts others new rest) others new.hub.node.store) (ap (λ (d : Desk S). d.hub.node) is)
-      (handles between new acts others earlier rest (held_still old between earlier c was (with_owed was left) held (ap (λ (d : Desk S). d.hub.connections) is) at (ap (λ (d : Desk S). d.standings) is)) honest))
-  handles old new (brought c piece ∷ acts) said earlier (words, others, between, (serving [], now, at, inl (list, last, feeds, is, owes), made), rest, all) held honest =
-      let before = held.known c (serving []) feeds.fed.rest at feeds.fed.was in
-      let more = handles between new acts others (earlier ++ record { conn = c; bytes = piece } ∷ []) rest (held_fed old between earlier c (serving []) now piece list last held feeds at made) honest in
-      let first = map (request_on c) feeds.fed.messages ++ fault_between c (unfinished feeds.fed.rest) feeds.fed.end in
-      let kept = feeds.fed.serves ((runs_keep g between new acts others rest).1.honest honest) in
-      let later = subst (λ (n : Configuration). Serves g n between.hub.node.store (requests_of more.0) more.1 new.hub.node.store) feeds.configuration more.3 in (
+  -- a piece was fed
+  fed_handled : (old between new : Desk S) (deeds : List Deed) (earlier : List Piece) (c : ℕ) (bytes words : List ℕ) (was now : Standing) (list : List Reply) (last : Bool) (rest : Runs g between deeds new)
+      → Held old earlier → g.is_honest new.hub.node.store → get old.standings c ≡ Some was → IsFed g old.hub c bytes list last between.hub → between.hub.node.configuration ≡ old.hub.node.configuration
+      → words ≡ bytes_of list → between.standings ≡ insert old.standings c now
+      → ((pieces : List Piece) → Held between pieces → Handled between.hub.node pieces (fed_in g between deeds new rest) (said_in deeds) new.hub.node.store)
+      → Handled old.hub.node earlier (record { conn = c; bytes = bytes } ∷ fed_in g between deeds new rest) (record { conn = c; bytes = words } ∷ said_in deeds) new.hub.node.store
+  fed_handled old between new deeds earlier c bytes words was now list last rest held honest at fed configured told stands more_of =
+      let before = held.known c was fed.rest at fed.was in
+      let more = more_of (earlier ++ record { conn = c; bytes = bytes } ∷ []) (held_fed old between earlier c was now bytes list last held fed at stands) in
+      let first = map (request_on c) fed.messages ++ fault_between c (unfinished fed.rest) fed.end in
+      let kept = fed.serves ((runs_keep g between new deeds rest).1.honest honest) in
+      let later = subst (λ (n : Configuration). RepliesInOrder g n between.hub.node.store (requests_of more.0) more.1 new.hub.node.store) configured more.3 in (
         first ++ more.0,
-        feeds.fed.answers ++ more.1,
+        fed.answers ++ more.1,
         (
           first,
           more.0,
           record {
             old = before.0;
-            before = unfinished feeds.fed.rest;
+            before = unfinished fed.rest;
             held = before.1;
-            new = feeds.fed.messages;
-            after = feeds.fed.end;
-            holds = Cuts-append (stream_of earlier c) piece before.0 feeds.fed.messages feeds.fed.rest feeds.fed.end before.1 feeds.fed.cuts;
+            new = fed.messages;
+            after = fed.end;
+            holds = Cuts-append (stream_of earlier c) bytes before.0 fed.messages fed.rest fed.end before.1 fed.cuts;
             order = refl;
           },
           more.2,
           refl,
         ),
-        subst (λ (ms : List Message). Serves g old.hub.node.configuration old.hub.node.store ms (feeds.fed.answers ++ more.1) new.hub.node.store)
-            (sym (requests_more first more.0 ∙ ap (λ (ms : List Message). ms ++ requests_of more.0) (requests_first c feeds.fed.messages feeds.fed.rest feeds.fed.end)))
-            (serves_then g old.hub.node.configuration old.hub.node.store between.hub.node.store new.hub.node.store feeds.fed.messages (requests_of more.0) feeds.fed.answers more.1 kept later),
-        says_fed said others more.0 more.1 c words list feeds.fed.messages feeds.fed.answers feeds.fed.rest feeds.fed.end kept.steps all is feeds.fed.replies kept.requests kept.answers more.4,
+        subst (λ (ms : List Message). RepliesInOrder g old.hub.node.configuration old.hub.node.store ms (fed.answers ++ more.1) new.hub.node.store)
+            (sym (requests_more first more.0 ∙ ap (λ (ms : List Message). ms ++ requests_of more.0) (requests_first c fed.messages fed.rest fed.end)))
+            (serves_then g old.hub.node.configuration old.hub.node.store between.hub.node.store new.hub.node.store fed.messages (requests_of more.0) fed.answers more.1 kept later),
+        says_fed (said_in deeds) more.0 more.1 c words list fed.messages fed.answers fed.rest fed.end kept.steps told fed.replies kept.requests kept.answers more.4,
       )
-  handles old new (brought c piece ∷ acts) said earlier (words, others, between, (serving [], now, at, inr (is, told, owes), made), rest, all) held honest =
-      let given = held.given c (serving []) at in
-      let quiet = refused_quiet c old.hub between.hub is given now between.standings old.standings made (subst (λ (ws : List ℕ). Owes now true ws) told owes) in
-      let more = subst (λ (n : Serving S). Handled n earlier (fed_in g between acts others new rest) others new.hub.node.store) (ap (λ (h : HubState S). h.node) is)
-      (handles between new acts others earlier rest (held_gone old between earlier c held (ap (λ (h : HubState S). h.connections) is)
-      (λ k apart. ap (λ (m : FinMap nat_cmp Standing). get m k) made ∙ set_other old.standings (insert old.standings c now) c k (Some now) (set_insert old.standings c now) apart)
-      (λ s there. given)) honest) in
-      (more.0, more.1, more.2, more.3, says_farewell said others more.0 more.1 c words all told (quiet_says c between new acts others quiet rest) more.4)
-  handles old new (brought c piece ∷ acts) said earlier (words, others, between, (serving (b ∷ bs), now, at, takes, made), rest, all) held honest = absurd takes
-  handles old new (brought c piece ∷ acts) said earlier (words, others, between, (ending [], now, at, (quiet, is, stands), made), rest, all) held honest =
-      quietly old.hub.node earlier (fed_in g between acts others new rest) said others new.hub.node.store c words all quiet
-      (subst (λ (n : Serving S). Handled n earlier (fed_in g between acts others new rest) others new.hub.node.store) (ap (λ (h : HubState S). h.node) is)
-      (handles between new acts others earlier rest (held_still old between earlier c (ending []) now held (ap (λ (h : HubState S). h.connections) is) at made) honest))
-  handles old new (brought c piece ∷ acts) said earlier (words, others, between, (ending (b ∷ bs), now, at, takes, made), rest, all) held honest = absurd takes
-  handles old new (brought c piece ∷ acts) said earlier (words, others, between, (given_up, now, at, takes, made), rest, all) held honest = absurd takes
 
-  all_handled : (hub : HubState S) (acts : List Act) (said : List Piece) (new : Desk S) (runs : Runs g (record { hub = hub; standings = empty }) acts said new) → g.is_honest new.hub.node.store
-      → Handled hub.node [] (fed_in g (record { hub = hub; standings = empty }) acts said new runs) said new.hub.node.store
-  all_handled hub acts said new runs honest =
-      handles (record { hub = hub; standings = empty }) new acts said [] runs
+  -- an act, where those behind it are handled
+  act_handled : (old between new : Desk S) (deeds : List Deed) (act : Act) (words : List ℕ) (earlier : List Piece) (does : Does g old act words between) (rest : Runs g between deeds new)
+      → Held old earlier → g.is_honest new.hub.node.store
+      → ((pieces : List Piece) → Held between pieces → Handled between.hub.node pieces (fed_in g between deeds new rest) (said_in deeds) new.hub.node.store)
+      → Handled old.hub.node earlier (fed_by g old act words between does ++ fed_in g between deeds new rest) (record { conn = conn_of act; bytes = words } ∷ said_in deeds) new.hub.node.store
+  act_handled old between new deeds accepted words earlier (quiet, is) rest held honest more =
+      quietly old.hub.node between.hub.node earlier (fed_in g between deeds new rest) (said_in deeds) new.hub.node.store 0 words quiet (ap (λ (d : Desk S). d.hub.node) is)
+      (more earlier (subst (λ (d : Desk S). Held d earlier) (sym is) held))
+  act_handled old between new deeds (opened c) words earlier (quiet, next, is) rest held honest more =
+      quietly old.hub.node between.hub.node earlier (fed_in g between deeds new rest) (said_in deeds) new.hub.node.store c words quiet (ap (λ (d : Desk S). d.hub.node) is)
+      (more earlier (held_opened old between earlier c words held (quiet, next, is)))
+  act_handled old between new deeds (closed c) words earlier (quiet, is) rest held honest more =
+      quietly old.hub.node between.hub.node earlier (fed_in g between deeds new rest) (said_in deeds) new.hub.node.store c words quiet (ap (λ (d : Desk S). d.hub.node) is)
+      (more earlier (held_gone old between earlier c held (ap (λ (d : Desk S). d.hub.connections) is)
+      (λ k apart. ap (λ (d : Desk S). get d.standings k) is ∙ remove_other old.standings c k apart)
+      (λ s at. absurd (let gone : None ≡ Some s = sym (ap (λ (d : Desk S). get d.standings c) is ∙ remove_here old.standings c) ∙ at in cc))))
+  act_handled old between new deeds (took c bytes) words earlier (was, left, at, owed, quiet, is) rest held honest more =
+      quietly old.hub.node between.hub.node earlier (fed_in g between deeds new rest) (said_in deeds) new.hub.node.store c words quiet (ap (λ (d : Desk S). d.hub.node) is)
+      (more earlier (held_still old between earlier c was (with_owed was left) held (ap (λ (d : Desk S). d.hub.connections) is) at (ap (λ (d : Desk S). d.standings) is)))
+  act_handled old between new deeds (brought c bytes) words earlier (was, now, at, inl feeds, is) rest held honest more =
+      fed_handled old between new deeds earlier c bytes words was now.standing feeds.replies feeds.last rest held honest at
+      (subst (λ (h : HubState S). IsFed g old.hub c bytes feeds.replies feeds.last h) (sym (ap (λ (d : Desk S). d.hub) is)) feeds.fed)
+      (ap (λ (d : Desk S). d.hub.node.configuration) is ∙ feeds.configuration) feeds.said (ap (λ (d : Desk S). d.standings) is) more
+  act_handled old between new deeds (brought c bytes) words earlier (was, now, at, inr (inl refuses), is) rest held honest more =
+      let hub_is : between.hub ≡ hub_without c old.hub = ap (λ (d : Desk S). d.hub) is ∙ refuses.ended in
+      let given = held.given c was at in
+      let quiet = refused_quiet old between c now refuses.ended given is (subst (λ (ws : List ℕ). Owes now.standing true ws) refuses.said refuses.owes) in
+      let handled = subst (λ (n : Serving S). Handled n earlier (fed_in g between deeds new rest) (said_in deeds) new.hub.node.store) (ap (λ (h : HubState S). h.node) hub_is)
+      (more earlier (held_gone old between earlier c held (ap (λ (h : HubState S). h.connections) hub_is)
+      (λ k apart. ap (λ (d : Desk S). get d.standings k) is ∙ insert_other old.standings c k now.standing apart)
+      (λ s there. given))) in
+      (handled.0, handled.1, handled.2, handled.3, says_farewell (said_in deeds) handled.0 handled.1 c words refuses.said (quiet_says c between new deeds quiet rest) handled.4)
+  act_handled old between new deeds (brought c bytes) words earlier (was, now, at, inr (inr (stood, quiet, same)), is) rest held honest more =
+      let hub_is : between.hub ≡ old.hub = ap (λ (d : Desk S). d.hub) is ∙ ap (λ (s : Seat S). s.hub) same in
+      quietly old.hub.node between.hub.node earlier (fed_in g between deeds new rest) (said_in deeds) new.hub.node.store c words quiet (ap (λ (h : HubState S). h.node) hub_is)
+      (more earlier (held_still old between earlier c was now.standing held (ap (λ (h : HubState S). h.connections) hub_is) at (ap (λ (d : Desk S). d.standings) is)))
+
+  handled_in : (old new : Desk S) (deeds : List Deed) (earlier : List Piece) (runs : Runs g old deeds new) → Held old earlier → g.is_honest new.hub.node.store
+      → Handled old.hub.node earlier (fed_in g old deeds new runs) (said_in deeds) new.hub.node.store
+  handled_in old new [] earlier is held honest =
+      ([], [], refl, subst (λ (d : Desk S). RepliesInOrder g old.hub.node.configuration old.hub.node.store [] [] d.hub.node.store) (sym is) (serves_none g old.hub.node.configuration old.hub.node.store), says_nothing)
+  handled_in old new (d ∷ deeds) earlier (between, does, rest) held honest =
+      act_handled old between new deeds d.act d.words earlier does rest held honest (λ pieces known. handled_in between new deeds pieces rest known honest)
+
+  all_handled : (hub : HubState S) (deeds : List Deed) (new : Desk S) (runs : Runs g (record { hub = hub; standings = empty }) deeds new) → g.is_honest new.hub.node.store
+      → Handled hub.node [] (fed_in g (record { hub = hub; standings = empty }) deeds new runs) (said_in deeds) new.hub.node.store
+  all_handled hub deeds new runs honest =
+      handled_in (record { hub = hub; standings = empty }) new deeds [] runs
       (record {
-        known = λ c s rest at on. let e = sym at ∙ none_stands c in absurd cc;
+        known = λ c s rest at on. let e = sym at ∙ get-empty nat_cmp c in absurd cc;
         fresh = λ c lt. refl;
-        given = λ c s at. let e = sym at ∙ none_stands c in absurd cc;
+        given = λ c s at. let e = sym at ∙ get-empty nat_cmp c in absurd cc;
       }) honest
 
   pub handles_all : HandlesInOrder g
-  handles_all hub acts said new runs honest = let h = all_handled hub acts said new runs honest in (h.0, h.1, h.2, h.3)
+  handles_all hub deeds new runs honest =
+      let h = all_handled hub deeds new runs honest in record { arrivals = h.0; replies = h.1; arrives = h.2; handled = h.3 }
 
   pub says_all : SaysInOrder g
-  says_all hub acts said new runs honest = all_handled hub acts said new runs honest
+  says_all hub deeds new runs honest =
+      let h = all_handled hub deeds new runs honest in (record { arrivals = h.0; replies = h.1; arrives = h.2; handled = h.3 }, h.4)

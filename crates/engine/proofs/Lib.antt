@@ -3,5 +3,7 @@ pub mod Bounds
 pub mod Deeds
 pub mod Handlings
 pub mod Keeping
+pub mod Standings
 pub mod Steps
 pub mod Takings
+pub mod Talks

@@ -3,9 +3,10 @@ pub mod Acts
 pub mod Standing
 pub mod Desks
 pub mod Counts
-pub mod Moves
+pub mod Conversing
 pub mod Taking
 pub mod Bound
 pub mod Order
 pub mod Saying
 pub mod Memory
+pub mod inner

@@ -3,17 +3,16 @@
 use Rattle.std.specs.Prelude.{◌≡◌, ◌⊎◌, ◌==◌, ℕ, List, [], ◌∷◌, ◌++◌, if◌then◌else◌}
 use Rattle.couch_http.specs.Reply.{Reply}
 use Rattle.store.specs.declared.store.Store.{Ghosts}
-use Rattle.hub.specs.Answering.{Serves}
-use Rattle.hub.specs.Arrival.{Arrival, Arrives, Piece, fault_on, request_on, stream_of}
+use Rattle.hub.specs.Arrival.{Arrival, fault_on, request_on, stream_of}
 use Rattle.hub.specs.Endings.{refusal_of}
 use Rattle.hub.specs.Feeding.{HubState}
 use Rattle.hub.specs.Service.{bytes_of, farewell}
-use Rattle.engine.specs.Acts.{Act}
-use Rattle.engine.specs.Desks.{Desk, Runs, new_desk}
-use Rattle.engine.specs.Order.{fed_in, requests_of}
+use Rattle.engine.specs.Desks.{Deed, Desk, Runs, new_desk, said_in}
+use Rattle.engine.specs.Order.{HandlesPieces, fed_in}
 
 -- The replies to what arrived on this connection, in order: of the replies of a run, which are those to the requests of all connections, the
--- ones to its own, and the fixed reply where its stream shows a fault.
+-- ones to its own, and the fixed reply where its stream shows a fault. So where requests arrive on 1, 2 and 1, and have the replies a, b and
+-- c, those on 1 are a and c.
 abbrev pub replies_on : ℕ → List Arrival → List Reply → List Reply
 replies_on conn [] replies = []
 replies_on conn (request_on c message ∷ arrivals) [] = []
@@ -28,7 +27,6 @@ IsSaid bytes replies = (bytes ≡ bytes_of replies) ⊎ (bytes ≡ bytes_of repl
 -- run, to what arrived on it.
 abbrev pub SaysInOrder : {S : Type 0} → Ghosts S → Type 0
 SaysInOrder {S} g =
-    (hub : HubState S) (acts : List Act) (said : List Piece) (new : Desk S) (runs : Runs g (new_desk hub) acts said new) → g.is_honest new.hub.node.store
-    → (arrivals : List Arrival) × (replies : List Reply) × Arrives [] (fed_in g (new_desk hub) acts said new runs) arrivals
-    × Serves g hub.node.configuration hub.node.store (requests_of arrivals) replies new.hub.node.store
-    × ((conn : ℕ) → IsSaid (stream_of said conn) (replies_on conn arrivals replies))
+    (hub : HubState S) (deeds : List Deed) (new : Desk S) (runs : Runs g (new_desk hub) deeds new) → g.is_honest new.hub.node.store
+    → (handles : HandlesPieces g hub (fed_in g (new_desk hub) deeds new runs) new.hub)
+    × ((conn : ℕ) → IsSaid (stream_of (said_in deeds) conn) (replies_on conn handles.arrivals handles.replies))

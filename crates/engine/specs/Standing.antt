@@ -1,9 +1,10 @@
 -- How a connection of a server stands, and what a piece does to it.
 -- RFC 9112, section 9.3.2, for the order of replies; that a connection is read where nothing is owed to it is this project's own.
-use Rattle.std.specs.Prelude.{◌≡◌, ◌≤◌, ◌⊎◌, ⊤, ℕ, Bool, true, false, List, [], ◌∷◌, length}
+use Rattle.std.specs.Prelude.{◌≡◌, ◌≤◌, ◌⊎◌, ⊤, ℕ, Bool, true, false, List, [], length}
 use Rattle.couch_http.specs.Reply.{Reply}
 use Rattle.store.specs.declared.store.Store.{Ghosts}
 use Rattle.store.specs.Calls.{GoesOn}
+use Rattle.hub.specs.Arrival.{Piece}
 use Rattle.hub.specs.Feeding.{HubState, IsFed}
 use Rattle.hub.specs.Service.{bytes_of, farewell, hub_without}
 
@@ -38,24 +39,35 @@ Owes (serving owed) last bytes = (last ≡ false) × (owed ≡ bytes) × (length
 Owes (ending owed) last bytes = (last ≡ true) × (owed ≡ bytes) × (length owed ≤ greatest_owed)
 Owes given_up last bytes = ⊤
 
--- a piece was fed to a hub, whose configuration stays, and whose store goes on
-pub record Feeds {S : Type 0} (g : Ghosts S) (old : HubState S) (conn : ℕ) (piece : List ℕ) (list : List Reply) (last : Bool) (new : HubState S) : Type 0 where
-  pub fed : IsFed g old conn piece list last new
-  pub configuration : new.node.configuration ≡ old.node.configuration
-  pub onward : GoesOn g old.node.store new.node.store
+-- a hub, and how one of its connections stands
+pub record Seat (S : Type 0) : Type 0 where
+  pub hub : HubState S
+  pub standing : Standing
 
--- A piece came on a connection that is served, and to which nothing was owed. It was fed, and the bytes of the replies are
--- owed; or the hub refused it, the connection has ended, and the farewell is owed.
-abbrev pub TakesServed : {S : Type 0} → Ghosts S → ℕ → HubState S → List ℕ → List ℕ → HubState S → Standing → Type 0
-TakesServed g conn old piece words new standing =
-    ((list : List Reply) × (last : Bool) × Feeds g old conn piece list last new × (words ≡ bytes_of list) × Owes standing last words)
-    ⊎ ((new ≡ hub_without conn old) × (words ≡ farewell) × Owes standing true words)
+-- A piece was fed to the hub. Its connection was served, and nothing was owed to it. The words are the bytes of the replies, and they
+-- are owed. The node's configuration stays, and its store goes on.
+pub record FeedsPiece {S : Type 0} (g : Ghosts S) (old : Seat S) (piece : Piece) (words : List ℕ) (new : Seat S) : Type 0 where
+  pub free : old.standing ≡ serving []
+  pub replies : List Reply
+  pub last : Bool
+  pub fed : IsFed g old.hub piece.conn piece.bytes replies last new.hub
+  pub said : words ≡ bytes_of replies
+  pub owes : Owes new.standing last words
+  pub configuration : new.hub.node.configuration ≡ old.hub.node.configuration
+  pub onward : GoesOn g old.hub.node.store new.hub.node.store
 
--- A piece came on a connection, and these words are to be said. It is read only where nothing is owed to it. What comes after
--- its last request is passed over.
-abbrev pub TakesPiece : {S : Type 0} → Ghosts S → ℕ → HubState S → Standing → List ℕ → List ℕ → HubState S → Standing → Type 0
-TakesPiece g conn old (serving []) piece words new standing = TakesServed g conn old piece words new standing
-TakesPiece g conn old (serving (b ∷ bs)) piece words new standing = ⊥
-TakesPiece g conn old (ending []) piece words new standing = (words ≡ []) × (new ≡ old) × (standing ≡ ending [])
-TakesPiece g conn old (ending (b ∷ bs)) piece words new standing = ⊥
-TakesPiece g conn old given_up piece words new standing = ⊥
+-- The hub refused a piece. Its connection was served, and nothing was owed to it. It has ended in the hub, and the farewell is owed.
+pub record RefusesPiece {S : Type 0} (old : Seat S) (piece : Piece) (words : List ℕ) (new : Seat S) : Type 0 where
+  pub free : old.standing ≡ serving []
+  pub ended : new.hub ≡ hub_without piece.conn old.hub
+  pub said : words ≡ farewell
+  pub owes : Owes new.standing true words
+
+-- What comes after the last request is passed over: nothing is owed any more, and nothing changes.
+abbrev pub PassesOver : {S : Type 0} → Seat S → List ℕ → Seat S → Type 0
+PassesOver old words new = (old.standing ≡ ending []) × (words ≡ []) × (new ≡ old)
+
+-- A piece came on a connection, and these words are to be said: it was fed, or refused, or passed over. So none comes while something
+-- is owed to its connection.
+abbrev pub TakesPiece : {S : Type 0} → Ghosts S → Seat S → Piece → List ℕ → Seat S → Type 0
+TakesPiece g old piece words new = FeedsPiece g old piece words new ⊎ (RefusesPiece old piece words new ⊎ PassesOver old words new)

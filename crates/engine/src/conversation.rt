@@ -7,6 +7,7 @@ use crate::sockets::Sockets;
 use couch_http::{Fixed, Response};
 use hub::{Hub, Replies};
 use std::alloc::Global;
+use std::collections::VecDeque;
 use store::Store;
 
 /// How many seconds a client that gets no more replies may be silent.
@@ -58,8 +59,9 @@ impl Conversation {
     ghost use Rattle.std.specs.Prelude.{◌≡◌, ◌≢◌, ℕ, List, [], true};
     ghost use Rattle.hub.specs.Service.{bytes_of, farewell};
     ghost use Rattle.engine.specs.Acts.{Logs};
-    ghost use Rattle.engine.specs.Moves.{Moves, Sends, stage_after_finish, standing_at};
-    ghost use Rattle.engine.specs.Standing.{TakesServed, Owes, TakesPiece};
+    ghost use Rattle.engine.specs.Conversing.{Converses, standing_of};
+    ghost use Rattle.engine.specs.Standing.{Owes, TakesPiece};
+    ghost use Rattle.engine.specs.inner.Sending.{Sends, stage_after_finish};
 
     /// Makes a conversation to which nothing is owed. Takes no memory.
     pub fn new(alloc: Global, now: u64) -> Conversation
@@ -89,6 +91,16 @@ impl Conversation {
         silent || slow
     }
 
+    /// Joins the queue of those that have a turn, if it isn't in it. Where memory runs out it isn't.
+    pub(crate) fn join_queue(&mut self, queue: &mut VecDeque<u64>, conn: u64)
+        ensures owed { self.new.owed ≡ self.old.owed }
+        ensures stage { self.new.stage ≡ self.old.stage }
+    {
+        if !self.queued && queue.push_back(conn).is_ok() {
+            self.queued = true;
+        }
+    }
+
     /// Takes a turn: writes what is owed; where nothing is left, reads a piece, feeds it, and writes the
     /// replies.
     pub fn take_turn<S: Store + Drop, W: Sockets>(
@@ -99,8 +111,8 @@ impl Conversation {
         room: &mut [u8],
         now: u64,
     ) -> Turn
-        ensures { Moves S.Store conn hub.old (standing_at self.old.stage self.old.owed) (W.log sockets.old)
-            hub.new (standing_at self.new.stage self.new.owed) (W.log sockets.new) }
+        ensures { Converses S.Store conn (record { hub = hub.old; standing = standing_of self.old; log = W.log sockets.old })
+            (record { hub = hub.new; standing = standing_of self.new; log = W.log sockets.new }) }
     {
         match self.stage {
             ConversationStage::Lost => Turn::Over,
@@ -120,8 +132,8 @@ impl Conversation {
         now: u64,
     ) -> Turn
         requires { self.old.stage ≢ ConversationStage.Lost }
-        ensures { Moves S.Store conn hub.old (standing_at self.old.stage self.old.owed) (W.log sockets.old)
-            hub.new (standing_at self.new.stage self.new.owed) (W.log sockets.new) }
+        ensures { Converses S.Store conn (record { hub = hub.old; standing = standing_of self.old; log = W.log sockets.old })
+            (record { hub = hub.new; standing = standing_of self.new; log = W.log sockets.new }) }
     {
         match self.send(sockets, conn, now) {
             Turn::Again => {}
@@ -182,8 +194,8 @@ impl Conversation {
     ) -> Turn
         requires stage { self.old.stage ≢ ConversationStage.Lost }
         requires owed { self.old.owed ≡ [] }
-        ensures { Moves S.Store conn hub.old (standing_at self.old.stage self.old.owed) (W.log sockets.old)
-            hub.new (standing_at self.new.stage self.new.owed) (W.log sockets.new) }
+        ensures { Converses S.Store conn (record { hub = hub.old; standing = standing_of self.old; log = W.log sockets.old })
+            (record { hub = hub.new; standing = standing_of self.new; log = W.log sockets.new }) }
     {
         for _number in 0..PIECES {
             let turn = self.take_next(hub, sockets, conn, room, now);
@@ -216,8 +228,8 @@ impl Conversation {
     ) -> Turn
         requires stage { self.old.stage ≢ ConversationStage.Lost }
         requires owed { self.old.owed ≡ [] }
-        ensures { Moves S.Store conn hub.old (standing_at self.old.stage self.old.owed) (W.log sockets.old)
-            hub.new (standing_at self.new.stage self.new.owed) (W.log sockets.new) }
+        ensures { Converses S.Store conn (record { hub = hub.old; standing = standing_of self.old; log = W.log sockets.old })
+            (record { hub = hub.new; standing = standing_of self.new; log = W.log sockets.new }) }
     {
         match sockets.read(conn, room) {
             Flow::Bytes(count, more) => {
@@ -256,8 +268,8 @@ impl Conversation {
     fn feed_hub<S: Store + Drop>(&mut self, hub: &mut Hub<S>, conn: u64, piece: &[u8], now: u64)
         requires stage { self.old.stage ≢ ConversationStage.Lost }
         requires owed { self.old.owed ≡ [] }
-        ensures { (words : List ℕ) × TakesPiece S.Store conn hub.old (standing_at self.old.stage self.old.owed) piece.now words
-            hub.new (standing_at self.new.stage self.new.owed) }
+        ensures { (words : List ℕ) × TakesPiece S.Store (record { hub = hub.old; standing = standing_of self.old })
+            (record { conn = conn; bytes = piece.now }) words (record { hub = hub.new; standing = standing_of self.new }) }
     {
         match self.stage {
             ConversationStage::Open => self.feed(hub, conn, piece, now),
@@ -269,7 +281,8 @@ impl Conversation {
     fn feed<S: Store + Drop>(&mut self, hub: &mut Hub<S>, conn: u64, piece: &[u8], now: u64)
         requires stage { self.old.stage ≡ ConversationStage.Open }
         requires owed { self.old.owed ≡ [] }
-        ensures { (words : List ℕ) × TakesServed S.Store conn hub.old piece.now words hub.new (standing_at self.new.stage self.new.owed) }
+        ensures { (words : List ℕ) × TakesPiece S.Store (record { hub = hub.old; standing = standing_of self.old })
+            (record { conn = conn; bytes = piece.now }) words (record { hub = hub.new; standing = standing_of self.new }) }
     {
         match hub.feed(conn, piece) {
             Ok(replies) => {
@@ -302,7 +315,7 @@ impl Conversation {
     fn owe_replies(&mut self, replies: &Replies)
         requires stage { self.old.stage ≡ ConversationStage.Open }
         requires owed { self.old.owed ≡ [] }
-        ensures { Owes (standing_at self.new.stage self.new.owed) replies.now.last (bytes_of replies.now.list.items) }
+        ensures { Owes (standing_of self.new) replies.now.last (bytes_of replies.now.list.items) }
     {
         if !self.owed.add_all(&replies.list) {
             self.stage = ConversationStage::Lost;
@@ -314,7 +327,7 @@ impl Conversation {
     /// Owes the reply where memory ran out, as the last one.
     fn owe_farewell(&mut self)
         requires owed { self.old.owed ≡ [] }
-        ensures { Owes (standing_at self.new.stage self.new.owed) true farewell }
+        ensures { Owes (standing_of self.new) true farewell }
     {
         let farewell = Response::fixed(Fixed::NoRoom { last: true });
         self.stage = if self.owed.add(farewell.bytes()) {

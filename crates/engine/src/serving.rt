@@ -6,7 +6,10 @@ ghost use Rattle.engine.specs.Counts.{ServesWithin};
 ghost use Rattle.engine.specs.Desks.{ServesAll};
 ghost use Rattle.hub.specs.Service.{hub_without};
 ghost use Rattle.engine.specs.Acts.{Logs, closed, opened};
-ghost use Rattle.engine.specs.Moves.{Begins, Ends, Opens, StandAlike, Turns};
+ghost use Rattle.engine.specs.Conversing.{GoesOnWithin};
+ghost use Rattle.engine.specs.Standing.{serving};
+ghost use Rattle.engine.specs.inner.Rounds.{standings_of, state_of, with_unopened};
+ghost use Rattle.std.specs.FinMap.{insert, remove};
 
 use crate::conversation::{Conversation, Turn};
 use crate::fault::EngineFault;
@@ -54,8 +57,9 @@ pub fn serve_all<S: Store + Drop, W: Sockets>(
     limits: &Limits,
 ) -> Result<(), EngineFault>
     // All that was done is told by the acts that were logged.
-    ensures served { ServesAll S.Store hub.old (W.log sockets.old) hub.new (W.log sockets.new) }
-    ensures within { ServesWithin S.Store limits.now result hub.old (W.log sockets.old) hub.new (W.log sockets.new) }
+    ensures served { ServesAll S.Store (record { hub = hub.old; log = W.log sockets.old }) (record { hub = hub.new; log = W.log sockets.new }) }
+    ensures within { ServesWithin S.Store limits.now result (record { hub = hub.old; log = W.log sockets.old })
+        (record { hub = hub.new; log = W.log sockets.new }) }
     ensures configuration { hub.new.node.configuration ≡ hub.old.node.configuration }
     ensures onward { GoesOn S.Store hub.old.node.store hub.new.node.store }
 {
@@ -87,8 +91,9 @@ impl Conversations {
         limits: &Limits,
     ) -> Result<(), EngineFault>
         requires accepted { self.old.accepted ≤ limits.now.conns }
-        ensures turns { Turns S.Store limits.now.at_once hub.old self.old.conversations.entries self.old.accepted (W.log sockets.old)
-            hub.new self.new.conversations.entries self.new.accepted (W.log sockets.new) }
+        ensures goes_on { GoesOnWithin S.Store limits.now.at_once
+            (state_of hub.old self.old.conversations.entries self.old.accepted (W.log sockets.old))
+            (state_of hub.new self.new.conversations.entries self.new.accepted (W.log sockets.new)) }
         ensures accepted { self.new.accepted ≤ limits.now.conns }
         ensures ends { OnOk result ((self.new.accepted ≡ limits.now.conns) × (self.new.conversations.entries ≡ [])) }
     {
@@ -111,8 +116,9 @@ impl Conversations {
         limits: &Limits,
     ) -> Result<(), EngineFault>
         requires accepted { self.old.accepted ≤ limits.now.conns }
-        ensures turns { Turns S.Store limits.now.at_once hub.old self.old.conversations.entries self.old.accepted (W.log sockets.old)
-            hub.new self.new.conversations.entries self.new.accepted (W.log sockets.new) }
+        ensures goes_on { GoesOnWithin S.Store limits.now.at_once
+            (state_of hub.old self.old.conversations.entries self.old.accepted (W.log sockets.old))
+            (state_of hub.new self.new.conversations.entries self.new.accepted (W.log sockets.new)) }
         ensures accepted { self.new.accepted ≤ limits.now.conns }
     {
         let wait = self.queue.is_empty() && !self.can_accept(limits);
@@ -142,7 +148,7 @@ impl Conversations {
 
     /// Notes what the last wait reported.
     fn note_ready<W: Sockets>(&mut self, sockets: &W)
-        ensures alike { StandAlike self.old.conversations.entries self.new.conversations.entries }
+        ensures alike { standings_of self.new.conversations.entries ≡ standings_of self.old.conversations.entries }
         ensures accepted { self.new.accepted ≡ self.old.accepted }
     {
         for at in 0..REPORTS {
@@ -156,15 +162,13 @@ impl Conversations {
 
     /// Gives a connection a turn in this round, if it has none yet.
     fn note(&mut self, conn: u64)
-        ensures alike { StandAlike self.old.conversations.entries self.new.conversations.entries }
+        ensures alike { standings_of self.new.conversations.entries ≡ standings_of self.old.conversations.entries }
         ensures accepted { self.new.accepted ≡ self.old.accepted }
     {
         let Some(conversation) = self.conversations.get_mut(&conn) else {
             return;
         };
-        if !conversation.queued && self.queue.push_back(conn).is_ok() {
-            conversation.queued = true;
-        }
+        conversation.join_queue(&mut self.queue, conn);
     }
 
     /// Accepts connections that wait, as many as may be.
@@ -175,8 +179,9 @@ impl Conversations {
         limits: &Limits,
     ) -> Result<(), EngineFault>
         requires accepted { self.old.accepted ≤ limits.now.conns }
-        ensures turns { Turns S.Store limits.now.at_once hub.old self.old.conversations.entries self.old.accepted (W.log sockets.old)
-            hub.new self.new.conversations.entries self.new.accepted (W.log sockets.new) }
+        ensures goes_on { GoesOnWithin S.Store limits.now.at_once
+            (state_of hub.old self.old.conversations.entries self.old.accepted (W.log sockets.old))
+            (state_of hub.new self.new.conversations.entries self.new.accepted (W.log sockets.new)) }
         ensures accepted { self.new.accepted ≤ limits.now.conns }
     {
         for _number in 0..REPORTS {
@@ -195,8 +200,9 @@ impl Conversations {
         sockets: &mut W,
     ) -> Result<(), EngineFault>
         requires { self.old.accepted < 2 ^ 64 - 1 }
-        ensures turns { (most : ℕ) → length self.old.conversations.entries < most → Turns S.Store most hub.old self.old.conversations.entries
-            self.old.accepted (W.log sockets.old) hub.new self.new.conversations.entries self.new.accepted (W.log sockets.new) }
+        ensures goes_on { (most : ℕ) → length self.old.conversations.entries < most → GoesOnWithin S.Store most
+            (state_of hub.old self.old.conversations.entries self.old.accepted (W.log sockets.old))
+            (state_of hub.new self.new.conversations.entries self.new.accepted (W.log sockets.new)) }
         ensures accepted { self.new.accepted ≤ self.old.accepted + 1 }
     {
         match sockets.accept() {
@@ -213,8 +219,9 @@ impl Conversations {
 
     /// Adds the connection that was accepted.
     fn add<S: Store + Drop, W: Sockets>(&mut self, hub: &mut Hub<S>, sockets: &mut W)
-        ensures opens { (most : ℕ) → Opens S.Store most hub.old self.old.conversations.entries (W.log sockets.old)
-            hub.new self.new.conversations.entries (W.log sockets.new) }
+        ensures goes_on { (most : ℕ) → GoesOnWithin S.Store most
+            (with_unopened (state_of hub.old self.old.conversations.entries self.old.accepted (W.log sockets.old)))
+            (state_of hub.new self.new.conversations.entries self.new.accepted (W.log sockets.new)) }
         ensures accepted { self.new.accepted ≡ self.old.accepted }
     {
         let Ok(conn) = hub.open() else {
@@ -231,8 +238,9 @@ impl Conversations {
     /// false where it can't be served, or memory ran out.
     fn begin<W: Sockets>(&mut self, sockets: &mut W, conn: u64) -> bool
         ensures log { Logs (W.log sockets.old) (W.log sockets.new) (opened conn ∷ []) }
-        ensures begins { result ≡ true → Begins self.old.conversations.entries conn self.new.conversations.entries }
-        ensures refused { result ≡ false → self.new.conversations.entries ≡ self.old.conversations.entries }
+        ensures begins { result ≡ true
+            → standings_of self.new.conversations.entries ≡ insert (standings_of self.old.conversations.entries) conn (serving []) }
+        ensures refused { result ≡ false → standings_of self.new.conversations.entries ≡ standings_of self.old.conversations.entries }
         ensures accepted { self.new.accepted ≡ self.old.accepted }
     {
         if !sockets.name(conn) {
@@ -249,8 +257,9 @@ impl Conversations {
         sockets: &mut W,
         room: &mut [u8],
     )
-        ensures turns { (most : ℕ) → Turns S.Store most hub.old self.old.conversations.entries self.old.accepted (W.log sockets.old)
-            hub.new self.new.conversations.entries self.new.accepted (W.log sockets.new) }
+        ensures goes_on { (most : ℕ) → GoesOnWithin S.Store most
+            (state_of hub.old self.old.conversations.entries self.old.accepted (W.log sockets.old))
+            (state_of hub.new self.new.conversations.entries self.new.accepted (W.log sockets.new)) }
         ensures accepted { self.new.accepted ≡ self.old.accepted }
     {
         for _number in 0..self.queue.len() {
@@ -269,8 +278,9 @@ impl Conversations {
         conn: u64,
         room: &mut [u8],
     )
-        ensures turns { (most : ℕ) → Turns S.Store most hub.old self.old.conversations.entries self.old.accepted (W.log sockets.old)
-            hub.new self.new.conversations.entries self.new.accepted (W.log sockets.new) }
+        ensures goes_on { (most : ℕ) → GoesOnWithin S.Store most
+            (state_of hub.old self.old.conversations.entries self.old.accepted (W.log sockets.old))
+            (state_of hub.new self.new.conversations.entries self.new.accepted (W.log sockets.new)) }
         ensures accepted { self.new.accepted ≡ self.old.accepted }
     {
         match self.turn_of(hub, sockets, conn, room) {
@@ -288,8 +298,9 @@ impl Conversations {
         conn: u64,
         room: &mut [u8],
     ) -> Turn
-        ensures turns { (most : ℕ) → Turns S.Store most hub.old self.old.conversations.entries self.old.accepted (W.log sockets.old)
-            hub.new self.new.conversations.entries self.new.accepted (W.log sockets.new) }
+        ensures goes_on { (most : ℕ) → GoesOnWithin S.Store most
+            (state_of hub.old self.old.conversations.entries self.old.accepted (W.log sockets.old))
+            (state_of hub.new self.new.conversations.entries self.new.accepted (W.log sockets.new)) }
         ensures accepted { self.new.accepted ≡ self.old.accepted }
     {
         let Some(conversation) = self.conversations.get_mut(&conn) else {
@@ -301,7 +312,7 @@ impl Conversations {
 
     /// Ends a connection.
     fn end<S: Store + Drop, W: Sockets>(&mut self, hub: &mut Hub<S>, sockets: &mut W, conn: u64)
-        ensures ends { Ends self.old.conversations.entries conn self.new.conversations.entries }
+        ensures ends { standings_of self.new.conversations.entries ≡ remove (standings_of self.old.conversations.entries) conn }
         ensures accepted { self.new.accepted ≡ self.old.accepted }
         ensures hub { hub.new ≡ hub_without conn hub.old }
         ensures log { Logs (W.log sockets.old) (W.log sockets.new) (closed conn ∷ []) }
@@ -318,8 +329,9 @@ impl Conversations {
         sockets: &mut W,
         limits: &Limits,
     )
-        ensures turns { (most : ℕ) → Turns S.Store most hub.old self.old.conversations.entries self.old.accepted (W.log sockets.old)
-            hub.new self.new.conversations.entries self.new.accepted (W.log sockets.new) }
+        ensures goes_on { (most : ℕ) → GoesOnWithin S.Store most
+            (state_of hub.old self.old.conversations.entries self.old.accepted (W.log sockets.old))
+            (state_of hub.new self.new.conversations.entries self.new.accepted (W.log sockets.new)) }
         ensures accepted { self.new.accepted ≡ self.old.accepted }
     {
         let late = self.late(limits);

@@ -1,11 +1,11 @@
 -- Tables whose rows are sound hold lawful databases, and are laid out.
-use Rattle.tables.proofs.Common.{AllByRecursion, AreLawful, Bool, IsAscending, IsBody, IsDatabaseRow, IsDocumentRow, IsLaid, IsLocalRow, IsRevisionRow, List, None, Option, Revision, Row, Some, Trees, Value, Null, Int, Real, Text, Blob, [], all-filter, all_weaker, and_parts, ap, arith, ascending_weaker, column, cond, contents_in, count_in, database_at, database_of, db_of, dbs_tree, docs_tree, document_of, entry_of, eq_by_cmp, false, filter, find, has_number, history_in, id_of, inl, inr, inside, is_in, is_known, is_named, is_of, is_revision, length_of, local_of, locals_tree, greatest_number, map, meta_tree, nat_le, nat_tests, number_of, Decides-int_eq, parent_in, pos, refl, revision_cmp, revision_cmp_total, revision_of, revs_tree, same, same_int, sequence_of, slice_get, subst, sym, text_of, true, version_row, whole_in, winner, ℕ, ℤ, ◌&&◌, ◌-◌, ◌∙◌, ◌∷◌, ◌≡◌, ◌≢◌, ◌≤◌, ◌⊎◌, HistoryContent, Entry, eqb-true, held_of, LocalDocument}
+use Rattle.tables.proofs.Common.{AllByRecursion, AreLawful, Bool, IsAscending, IsBody, IsDatabaseRow, IsDocumentRow, IsWellFormed, IsLocalRow, IsRevisionRow, List, None, Option, Revision, Row, Some, Trees, Value, Null, Int, Real, Text, Blob, [], all-filter, all_weaker, and_parts, ap, arith, ascending_weaker, column, cond, contents_in, count_in_cell, database_row_at, database_of_row, db_of, dbs_tree, docs_tree, document_of_row, entry_of, eq_by_cmp, false, filter, find, has_number, history_in_rows, id_of, inl, inr, inside, is_row_of_database, is_known, is_named, is_row_of_document, is_revision, sequence_of_database, local_of, locals_tree, greatest_number, map, meta_tree, nat_le, nat_tests, number_of, Decides-int_eq, parent_in, pos, refl, revision_cmp, revision_cmp_total, revision_of_row, revs_tree, same, same_int, sequence_of_row, slice_get, subst, sym, text_of, true, version_row, whole_in_cell, winner, ℕ, ℤ, ◌&&◌, ◌-◌, ◌∙◌, ◌∷◌, ◌≡◌, ◌≢◌, ◌≤◌, ◌⊎◌, HistoryContent, Entry, eqb-true, held_of, LocalDocument}
 use Rattle.std.specs.FinMap as finite
 use Rattle.std.specs.Prelude.{option_and_then, ◌==◌}
 use Rattle.std.specs.Cmp.{first_so}
 use Rattle.std.proofs.Common.{eq-eqb}
 use Rattle.store.specs.Database.{Document, HasSequences}
-use Rattle.store.specs.Lawful.{IsLawful, IsWritten}
+use Rattle.store.specs.Lawful.{IsLawfulDatabase, IsWritten}
 use Rattle.tables.proofs.Lookups.{database_found, get_id, local_found, own_number}
 use Rattle.tables.proofs.RowMaps.{mapped_some, passing}
 use Rattle.tables.proofs.Single.{HasOneAtMost}
@@ -69,22 +69,22 @@ found_one p (r ∷ rows) d one (inr i) is = by (p r) refl (found_one p rows d on
 -- ---- known revisions are rows
 
 abbrev known_entry : Row → Revision × Entry
-known_entry r = (revision_of r, entry_of r)
+known_entry r = (revision_of_row r, entry_of r)
 
 -- the row of a revision and its entry
 record IsRowOf (q : Revision) (e : Entry) (rows : List Row) : Type 0 where
   row : Row
   among : In rows row
-  revision : revision_of row ≡ q
+  revision : revision_of_row row ≡ q
   entry : entry_of row ≡ e
 
 find_row : (q : Revision) (e : Entry) (rows : List Row) → finite.find revision_cmp q (map known_entry rows) ≡ Some e → IsRowOf q e rows
 find_row q e [] found = absurd cc
-find_row q e (r ∷ rows) found = by (find_row q e rows) (eq_by_cmp revision_cmp q (revision_of r)) refl found
+find_row q e (r ∷ rows) found = by (find_row q e rows) (eq_by_cmp revision_cmp q (revision_of_row r)) refl found
   where
-    by : (finite.find revision_cmp q (map known_entry rows) ≡ Some e → IsRowOf q e rows) → (b : Bool) → eq_by_cmp revision_cmp q (revision_of r) ≡ b
+    by : (finite.find revision_cmp q (map known_entry rows) ≡ Some e → IsRowOf q e rows) → (b : Bool) → eq_by_cmp revision_cmp q (revision_of_row r) ≡ b
         → cond b (Some (entry_of r)) (finite.find revision_cmp q (map known_entry rows)) ≡ Some e → IsRowOf q e (r ∷ rows)
-    by rest true tie f = record { row = r; among = inl refl; revision = sym (same q (revision_of r) tie); entry = inside (entry_of r) e f }
+    by rest true tie f = record { row = r; among = inl refl; revision = sym (same q (revision_of_row r) tie); entry = inside (entry_of r) e f }
     by rest false tie f = let it = rest f in record { row = it.row; among = inr it.among; revision = it.revision; entry = it.entry }
 
 pub parent_number : (n : ℕ) (v : Value) (p : Revision) → parent_in n v ≡ Some p → p.number ≡ n - 1
@@ -110,17 +110,17 @@ module _ (trees : Trees) (shaped : AreShaped trees) (sound : AreSound trees) whe
     is : IsRevisionRow trees row
     db_is : db_of row ≡ db
     id_is : id_of row ≡ id
-    revision : revision_of row ≡ q
+    revision : revision_of_row row ≡ q
     entry : entry_of row ≡ e
 
-  known_row : (db : ℤ) (id : List ℕ) (q : Revision) (e : Entry) → finite.get (history_in (trees revs_tree) db id) q ≡ Some e → IsKnownRow db id q e
+  known_row : (db : ℤ) (id : List ℕ) (q : Revision) (e : Entry) → finite.get (history_in_rows (trees revs_tree) db id) q ≡ Some e → IsKnownRow db id q e
   known_row db id q e got =
-      let rows = filter (is_of db id) (trees revs_tree) in
+      let rows = filter (is_row_of_document db id) (trees revs_tree) in
       let it = find_row q e rows (sym (finite.get-from_entries revision_cmp_total (map known_entry rows) q) ∙ got) in
-      let own = of_these db id it.row (all_at (λ r. is_of db id r ≡ true) rows it.row (passing (is_of db id) (trees revs_tree)) it.among) in
+      let own = of_these db id it.row (all_at (λ r. is_row_of_document db id r ≡ true) rows it.row (passing (is_row_of_document db id) (trees revs_tree)) it.among) in
       record {
         row = it.row;
-        is = all_at (IsRevisionRow trees) rows it.row (all-filter (IsRevisionRow trees) (is_of db id) (trees revs_tree) sound.revs) it.among;
+        is = all_at (IsRevisionRow trees) rows it.row (all-filter (IsRevisionRow trees) (is_row_of_document db id) (trees revs_tree) sound.revs) it.among;
         db_is = own.0;
         id_is = own.1;
         revision = it.revision;
@@ -134,47 +134,47 @@ module _ (trees : Trees) (shaped : AreShaped trees) (sound : AreSound trees) whe
       by None g u = absurd cc
       by (Some e) g u = (e, g, u)
 
-  history_rooted : (db : ℤ) (id : List ℕ) → IsRooted (history_in (trees revs_tree) db id)
+  history_rooted : (db : ℤ) (id : List ℕ) → IsRooted (history_in_rows (trees revs_tree) db id)
   history_rooted db id = record {
     parents_known = λ r p up.
-        let e = got_from (λ x. x.parent) (history_in (trees revs_tree) db id) r p up in
+        let e = got_from (λ x. x.parent) (history_in_rows (trees revs_tree) db id) r p up in
         let k = known_row db id r e.0 e.1 in
         let there = k.is.follows p (ap (λ (x : Entry). x.parent) k.entry ∙ e.2) in
-        ap (λ n. is_known (history_in (trees revs_tree) n id) p) (sym k.db_is) ∙ ap (λ i. is_known (history_in (trees revs_tree) (db_of k.row) i) p) (sym k.id_is) ∙ there;
+        ap (λ n. is_known (history_in_rows (trees revs_tree) n id) p) (sym k.db_is) ∙ ap (λ i. is_known (history_in_rows (trees revs_tree) (db_of k.row) i) p) (sym k.id_is) ∙ there;
     descends = λ r p up.
-        let e = got_from (λ x. x.parent) (history_in (trees revs_tree) db id) r p up in
+        let e = got_from (λ x. x.parent) (history_in_rows (trees revs_tree) db id) r p up in
         let k = known_row db id r e.0 e.1 in
-        let number = parent_number (count_in (column k.row 3)) (column k.row 5) p (ap (λ (x : Entry). x.parent) k.entry ∙ e.2) in
-        let low = first_number (revision_of k.row) k.is.lawful in
+        let number = parent_number (count_in_cell (column k.row 3)) (column k.row 5) p (ap (λ (x : Entry). x.parent) k.entry ∙ e.2) in
+        let low = first_number (revision_of_row k.row) k.is.lawful in
         let same_number = ap (λ (q : Revision). q.number) k.revision in
         omega (arith, number, low, same_number);
     begins = λ r known up.
-        let e = entry_of_known (history_in (trees revs_tree) db id) r known in
+        let e = entry_of_known (history_in_rows (trees revs_tree) db id) r known in
         let k = known_row db id r e.0 e.1 in
         let none = ap (λ (x : Entry). x.parent) k.entry ∙ ap (option_and_then (λ (x : Entry). x.parent)) (sym e.1) ∙ up in
         sym (ap (λ (q : Revision). q.number) k.revision) ∙ k.is.first.0 none;
   }
 
-  body_known : (db : ℤ) (id : List ℕ) (s : Revision) (d : Held) → held_of (history_in (trees revs_tree) db id) s ≡ Some d → IsBody d.body
+  body_known : (db : ℤ) (id : List ℕ) (s : Revision) (d : Held) → held_of (history_in_rows (trees revs_tree) db id) s ≡ Some d → IsBody d.body
   body_known db id s d holds =
-      let e = got_from (λ x. x.held) (history_in (trees revs_tree) db id) s d holds in
+      let e = got_from (λ x. x.held) (history_in_rows (trees revs_tree) db id) s d holds in
       let k = known_row db id s e.0 e.1 in
       k.is.body d (ap (λ (x : Entry). x.held) k.entry ∙ e.2)
 
-  written : (r : Row) → IsSoundDocument trees r → IsWritten (history_in (trees revs_tree) (db_of r) (id_of r))
+  written : (r : Row) → IsSoundDocument trees r → IsWritten (history_in_rows (trees revs_tree) (db_of r) (id_of r))
   written r k =
-      let h = history_in (trees revs_tree) (db_of r) (id_of r) in
+      let h = history_in_rows (trees revs_tree) (db_of r) (id_of r) in
       let w = mapped_some text_of (winner h) _ k.row.won in
       let leaf = (leaves_are h w.0).0 (first_stands (leaves h) w.0 w.1) in
       is_written h (history_rooted (db_of r) (id_of r)) (body_known (db_of r) (id_of r)) k.leaves w.0 (first_so (is_known h w.0) _ leaf)
 
   -- ---- the databases are lawful
 
-  sequences_apart : IsAscending (λ a b. db_of a ≡ db_of b → sequence_of a ≢ sequence_of b) (trees docs_tree)
+  sequences_apart : IsAscending (λ a b. db_of a ≡ db_of b → sequence_of_row a ≢ sequence_of_row b) (trees docs_tree)
   sequences_apart =
-      both_in (IsSoundDocument trees) (λ a b. db_of a ≡ db_of b → whole_in (column a 3) ≢ whole_in (column b 3)) (λ a b. db_of a ≡ db_of b → sequence_of a ≢ sequence_of b)
+      both_in (IsSoundDocument trees) (λ a b. db_of a ≡ db_of b → whole_in_cell (column a 3) ≢ whole_in_cell (column b 3)) (λ a b. db_of a ≡ db_of b → sequence_of_row a ≢ sequence_of_row b)
       (λ a b k l apart db_same same_sequence.
-      apart db_same (ap (λ x. whole_in (column x 3)) k.row.is ∙ ap pos same_sequence ∙ sym (ap (λ x. whole_in (column x 3)) l.row.is))) (trees docs_tree) sound.docs shaped.sequences_apart
+      apart db_same (ap (λ x. whole_in_cell (column x 3)) k.row.is ∙ ap pos same_sequence ∙ sym (ap (λ x. whole_in_cell (column x 3)) l.row.is))) (trees docs_tree) sound.docs shaped.sequences_apart
 
   -- the row of a document of a database
   record IsDocumentOf (n : ℤ) (id : List ℕ) (d : Document) : Type 0 where
@@ -183,40 +183,40 @@ module _ (trees : Trees) (shaped : AreShaped trees) (sound : AreSound trees) whe
     is : IsSoundDocument trees row
     db_is : db_of row ≡ n
     id_is : id_of row ≡ id
-    document : document_of (trees revs_tree) row ≡ d
+    document : document_of_row (trees revs_tree) row ≡ d
 
-  document_row_of : (d : Row) (id : List ℕ) (x : Document) → finite.get (database_of trees d).documents id ≡ Some x → IsDocumentOf (number_of d) id x
+  document_row_of : (d : Row) (id : List ℕ) (x : Document) → finite.get (database_of_row trees d).documents id ≡ Some x → IsDocumentOf (number_of d) id x
   document_row_of d id x got =
-      let found = mapped_some (document_of (trees revs_tree)) _ x (sym (get_id (number_of d) id (document_of (trees revs_tree)) (trees docs_tree)) ∙ got) in
-      let it = found_row (is_of (number_of d) id) (trees docs_tree) found.0 found.1 in
+      let found = mapped_some (document_of_row (trees revs_tree)) _ x (sym (get_id (number_of d) id (document_of_row (trees revs_tree)) (trees docs_tree)) ∙ got) in
+      let it = found_row (is_row_of_document (number_of d) id) (trees docs_tree) found.0 found.1 in
       let own = of_these (number_of d) id found.0 it.1 in
       record { row = found.0; among = it.0; is = all_at (IsSoundDocument trees) (trees docs_tree) found.0 sound.docs it.0; db_is = own.0; id_is = own.1; document = found.2 }
 
   at_sequence : ℤ → ℕ → Row → Bool
-  at_sequence n sequence r = is_in n r && (sequence_of r == sequence)
+  at_sequence n sequence r = is_row_of_database n r && (sequence_of_row r == sequence)
 
   one_at_sequence : (n : ℤ) (sequence : ℕ) → HasOneAtMost (at_sequence n sequence) (trees docs_tree)
   unfolding at_sequence
   one_at_sequence n sequence =
-      ascending_weaker (λ a b. db_of a ≡ db_of b → sequence_of a ≢ sequence_of b) (λ a b. at_sequence n sequence a ≡ true → at_sequence n sequence b ≡ true → ⊥)
+      ascending_weaker (λ a b. db_of a ≡ db_of b → sequence_of_row a ≢ sequence_of_row b) (λ a b. at_sequence n sequence a ≡ true → at_sequence n sequence b ≡ true → ⊥)
       (λ a b apart x y.
-      let p = and_parts (is_in n a) (sequence_of a == sequence) x in
-      let q = and_parts (is_in n b) (sequence_of b == sequence) y in
-      apart (same_int (db_of a) n p.0 ∙ sym (same_int (db_of b) n q.0)) (eqb-true (sequence_of a) sequence p.1 ∙ sym (eqb-true (sequence_of b) sequence q.1))) (trees docs_tree) sequences_apart
+      let p = and_parts (is_row_of_database n a) (sequence_of_row a == sequence) x in
+      let q = and_parts (is_row_of_database n b) (sequence_of_row b == sequence) y in
+      apart (same_int (db_of a) n p.0 ∙ sym (same_int (db_of b) n q.0)) (eqb-true (sequence_of_row a) sequence p.1 ∙ sym (eqb-true (sequence_of_row b) sequence q.1))) (trees docs_tree) sequences_apart
 
-  stands_at : (n : ℤ) (sequence : ℕ) (r : Row) → db_of r ≡ n → sequence_of r ≡ sequence → at_sequence n sequence r ≡ true
+  stands_at : (n : ℤ) (sequence : ℕ) (r : Row) → db_of r ≡ n → sequence_of_row r ≡ sequence → at_sequence n sequence r ≡ true
   unfolding at_sequence
-  stands_at n sequence r db_is is = rw ((Decides-int_eq (db_of r) n).1 db_is, eq-eqb (sequence_of r) sequence is) refl
+  stands_at n sequence r db_is is = rw ((Decides-int_eq (db_of r) n).1 db_is, eq-eqb (sequence_of_row r) sequence is) refl
 
-  database_is_there : (d : Row) → In (trees dbs_tree) d → database_at (trees dbs_tree) (number_of d) ≡ Some d
+  database_is_there : (d : Row) → In (trees dbs_tree) d → database_row_at (trees dbs_tree) (number_of d) ≡ Some d
   database_is_there d i = found_one (has_number (number_of d)) (trees dbs_tree) d (one_numbered (trees dbs_tree) shaped.kept.dbs.rising (number_of d)) i (own_number d)
 
-  has_sequences : (d : Row) → In (trees dbs_tree) d → HasSequences (database_of trees d)
+  has_sequences : (d : Row) → In (trees dbs_tree) d → HasSequences (database_of_row trees d)
   has_sequences d i = record {
     positive = λ id x got. let k = document_row_of d id x got in subst (λ (y : Document). 1 ≤ y.sequence) k.document k.is.row.positive;
     within = λ id x got.
         let k = document_row_of d id x got in
-        subst (λ (y : Document). y.sequence ≤ length_of d) k.document (k.is.row.within d (ap (database_at (trees dbs_tree)) k.db_is ∙ database_is_there d i));
+        subst (λ (y : Document). y.sequence ≤ sequence_of_database d) k.document (k.is.row.within d (ap (database_row_at (trees dbs_tree)) k.db_is ∙ database_is_there d i));
     distinct = λ id other x y got got_other same_sequence.
         let k = document_row_of d id x got in
         let l = document_row_of d other y got_other in
@@ -226,7 +226,7 @@ module _ (trees : Trees) (shaped : AreShaped trees) (sound : AreSound trees) whe
         sym k.id_is ∙ ap id_of one ∙ l.id_is;
   }
 
-  database_lawful : (d : Row) → In (trees dbs_tree) d → IsLawful (database_of trees d)
+  database_lawful : (d : Row) → In (trees dbs_tree) d → IsLawfulDatabase (database_of_row trees d)
   database_lawful d i = record {
     documents = λ id x got.
         let k = document_row_of d id x got in
@@ -234,27 +234,27 @@ module _ (trees : Trees) (shaped : AreShaped trees) (sound : AreSound trees) whe
     sequences = has_sequences d i;
     locals = λ id x got.
         let found = mapped_some local_of _ x (sym (local_found trees d id) ∙ got) in
-        let it = found_row (is_of (number_of d) id) (trees locals_tree) found.0 found.1 in
+        let it = found_row (is_row_of_document (number_of d) id) (trees locals_tree) found.0 found.1 in
         let k = all_at (IsLocalRow trees) (trees locals_tree) found.0 sound.locals it.0 in
         subst (λ (y : LocalDocument). IsBody y.body) found.2 k.body;
   }
 
   are_lawful : AreLawful (contents_in trees)
   are_lawful name db got =
-      let found = mapped_some (database_of trees) _ db (sym (database_found trees name) ∙ got) in
+      let found = mapped_some (database_of_row trees) _ db (sym (database_found trees name) ∙ got) in
       let it = found_row (is_named name) (trees dbs_tree) found.0 found.1 in
-      subst IsLawful found.2 (database_lawful found.0 it.0)
+      subst IsLawfulDatabase found.2 (database_lawful found.0 it.0)
 
-  revisions_apart : IsAscending (λ a b. db_of a ≡ db_of b → id_of a ≡ id_of b → revision_of a ≢ revision_of b) (trees revs_tree)
+  revisions_apart : IsAscending (λ a b. db_of a ≡ db_of b → id_of a ≡ id_of b → revision_of_row a ≢ revision_of_row b) (trees revs_tree)
   revisions_apart =
-      both_in (IsRevisionRow trees) (λ a b. db_of a ≡ db_of b → id_of a ≡ id_of b → stored_revision a ≢ stored_revision b) (λ a b. db_of a ≡ db_of b → id_of a ≡ id_of b → revision_of a ≢ revision_of b)
+      both_in (IsRevisionRow trees) (λ a b. db_of a ≡ db_of b → id_of a ≡ id_of b → stored_revision a ≢ stored_revision b) (λ a b. db_of a ≡ db_of b → id_of a ≡ id_of b → revision_of_row a ≢ revision_of_row b)
       (λ a b k l apart db_same id_same same_revision.
-      let number = ap (λ x. whole_in (column x 3)) k.is ∙ ap (λ (q : Revision). pos q.number) same_revision ∙ sym (ap (λ x. whole_in (column x 3)) l.is) in
+      let number = ap (λ x. whole_in_cell (column x 3)) k.is ∙ ap (λ (q : Revision). pos q.number) same_revision ∙ sym (ap (λ x. whole_in_cell (column x 3)) l.is) in
       let hash = ap (λ (q : Revision). q.hash) same_revision in
       apart db_same id_same (λ i. (number i, hash i))) (trees revs_tree) sound.revs shaped.revisions_apart
 
   -- tables whose rows are sound are laid out
-  pub is_laid : trees meta_tree ≡ version_row 2 ∷ [] → IsLaid trees
+  pub is_laid : trees meta_tree ≡ version_row 2 ∷ [] → IsWellFormed trees
   is_laid version = record {
     version = version;
     dbs_numbered = shaped.kept.dbs;

@@ -1,5 +1,5 @@
 -- What is told of one document, and of the names and the keys that its rows follow.
-use Rattle.index.proofs.Common.{AllByRecursion, Blob, Bool, Database, HasIndexRows, Int, IsDeclarationRow, List, None, Option, Row, Some, Trees, [], all-filter, all_of, ap, arith, bytes_eq, bytes_eq-Decides, column, cond, declaration_at, declared, declared_at, declares_in, decls_tree, design_of, drop, entries_tree, false, fields_of, filter, find, find_found, get_or, has_entry, has_number, home_of, if◌then◌else◌, index_name_of, inl, inr, is_at_home, is_declaration_of, key_at, key_if_seen, length, list_any, map, number_of, option_map, refl, same_int, sees_in, subst, suc, sym, true, ℕ, ℤ, ◌+◌, ◌||◌, ◌∙◌, ◌∷◌, ◌≡◌}
+use Rattle.index.proofs.Common.{AllByRecursion, Blob, Bool, Database, HasIndexRows, Int, IsDeclarationRow, List, None, Option, Row, Some, Trees, [], all-filter, all_of, ap, arith, bytes_eq, bytes_eq-Decides, column, cond, declaration_at, declared, declared_at, declares_in, decls_tree, design_of, drop, entries_tree, false, fields_of, filter, find, find_found, get_or, has_entry, has_number, database_of_declaration, if◌then◌else◌, index_name_of_row, inl, inr, is_at_home, is_declaration_of, key_at, key_if_seen, length, list_any, map, number_of, option_map, refl, same_int, sees_in, subst, suc, sym, true, ℕ, ℤ, ◌+◌, ◌||◌, ◌∙◌, ◌∷◌, ◌≡◌}
 use Rattle.couch_json.specs.View.{members_view}
 use Rattle.couch_json.specs.declared.value.Json.{Json}
 use Rattle.couch_json.specs.Value.{Members, Value, member, member_at, member_of, no_members, object}
@@ -21,7 +21,7 @@ use Rattle.store.proofs.Listings.{In}
 use Rattle.store.proofs.Winnings.{fields_alone, queried_alone}
 use Rattle.store.specs.Winning.{winner_alone}
 use Rattle.store.specs.Indexes.{declared_fields, fields_in, index_fields_of, queried_document, winning_body, indexes_if}
-use Rattle.tables.specs.Rows.{db_of, history_in, id_of}
+use Rattle.tables.specs.Rows.{db_of, history_in_rows, id_of}
 use Rattle.tables.specs.Schema.{revs_tree}
 use Rattle.tree.proofs.Shown.{inside}
 use Rattle.tree.specs.DocumentId.{is_design_id}
@@ -40,8 +40,8 @@ module _ (trees : Trees) (d : Row) where
       answer_as (HaveRows (db_of d) (id_of d) (declares_in trees (db_of d) (id_of d)) trees) (IsIndexedDocument trees d) b
       (λ rows. record {
         declared = rows;
-        entered = all_of (λ r. home_of r ≡ db_of d → HasItsKey (id_of d) (sees_in trees (db_of d) (id_of d)) trees r)
-            (λ r home k key. absurd (let never = sym (ap (λ x. key_if_seen (fields_of r) (if x then None else Rattle.store.specs.Indexes.shown_by (id_of d) (history_in (trees revs_tree) (db_of d) (id_of d)) (Rattle.store.specs.Pages.live_rev (history_in (trees revs_tree) (db_of d) (id_of d))))) is) ∙ key in cc)) (trees decls_tree);
+        entered = all_of (λ r. database_of_declaration r ≡ db_of d → HasItsKey (id_of d) (sees_in trees (db_of d) (id_of d)) trees r)
+            (λ r home k key. absurd (let never = sym (ap (λ x. key_if_seen (fields_of r) (if x then None else Rattle.store.specs.Indexes.shown_by (id_of d) (history_in_rows (trees revs_tree) (db_of d) (id_of d)) (Rattle.store.specs.Pages.live_rev (history_in_rows (trees revs_tree) (db_of d) (id_of d))))) is) ∙ key in cc)) (trees decls_tree);
       })
       (λ whole. whole.declared) h
 
@@ -50,27 +50,27 @@ module _ (trees : Trees) (d : Row) where
   plain_answer b out h =
       answer_as (HaveItsKeys (db_of d) (id_of d) (sees_in trees (db_of d) (id_of d)) trees) (IsIndexedDocument trees d) b
       (λ keys. record {
-        declared = λ name fields is. absurd (let never = sym (ap (λ x. if x then option_and_then (λ body. declared_fields body name) (winning_body (history_in (trees revs_tree) (db_of d) (id_of d))) else None) out) ∙ is in cc);
+        declared = λ name fields is. absurd (let never = sym (ap (λ x. if x then option_and_then (λ body. declared_fields body name) (winning_body (history_in_rows (trees revs_tree) (db_of d) (id_of d))) else None) out) ∙ is in cc);
         entered = keys;
       })
       (λ whole. whole.entered) h
 
   -- the same of what was read
-  pub design_told : (db : ℤ) (id : List ℕ) (h : HistoryContent) (b : Bool) → h ≡ winner_alone (history_in (trees revs_tree) db id) → db ≡ db_of d → id ≡ id_of d → is_design_id id ≡ true → IsAnswer (HaveRows db id (index_fields_of id h) trees) b
+  pub design_told : (db : ℤ) (id : List ℕ) (h : HistoryContent) (b : Bool) → h ≡ winner_alone (history_in_rows (trees revs_tree) db id) → db ≡ db_of d → id ≡ id_of d → is_design_id id ≡ true → IsAnswer (HaveRows db id (index_fields_of id h) trees) b
       → IsAnswer (IsIndexedDocument trees d) b
   design_told db id h b is numbered named design told =
       design_answer b (ap is_design_id (sym named) ∙ design)
-      (subst (λ n. IsAnswer (HaveRows n (id_of d) (index_fields_of (id_of d) (history_in (trees revs_tree) n (id_of d))) trees) b) numbered
-      (subst (λ i. IsAnswer (HaveRows db i (index_fields_of i (history_in (trees revs_tree) db i)) trees) b) named
-      (subst (λ f. IsAnswer (HaveRows db id f trees) b) (λ j name. (ap (λ (k : HistoryContent). index_fields_of id k name) is ∙ fields_alone (history_in (trees revs_tree) db id) id name) j) told)))
+      (subst (λ n. IsAnswer (HaveRows n (id_of d) (index_fields_of (id_of d) (history_in_rows (trees revs_tree) n (id_of d))) trees) b) numbered
+      (subst (λ i. IsAnswer (HaveRows db i (index_fields_of i (history_in_rows (trees revs_tree) db i)) trees) b) named
+      (subst (λ f. IsAnswer (HaveRows db id f trees) b) (λ j name. (ap (λ (k : HistoryContent). index_fields_of id k name) is ∙ fields_alone (history_in_rows (trees revs_tree) db id) id name) j) told)))
 
-  pub plain_told : (db : ℤ) (id : List ℕ) (h : HistoryContent) (b : Bool) → h ≡ winner_alone (history_in (trees revs_tree) db id) → db ≡ db_of d → id ≡ id_of d → is_design_id id ≡ false → IsAnswer (HaveItsKeys db id (queried_document id h) trees) b
+  pub plain_told : (db : ℤ) (id : List ℕ) (h : HistoryContent) (b : Bool) → h ≡ winner_alone (history_in_rows (trees revs_tree) db id) → db ≡ db_of d → id ≡ id_of d → is_design_id id ≡ false → IsAnswer (HaveItsKeys db id (queried_document id h) trees) b
       → IsAnswer (IsIndexedDocument trees d) b
   plain_told db id h b is numbered named plain told =
       plain_answer b (ap is_design_id (sym named) ∙ plain)
-      (subst (λ n. IsAnswer (HaveItsKeys n (id_of d) (queried_document (id_of d) (history_in (trees revs_tree) n (id_of d))) trees) b) numbered
-      (subst (λ i. IsAnswer (HaveItsKeys db i (queried_document i (history_in (trees revs_tree) db i)) trees) b) named
-      (subst (λ o. IsAnswer (HaveItsKeys db id o trees) b) (ap (queried_document id) is ∙ queried_alone (history_in (trees revs_tree) db id) id) told)))
+      (subst (λ n. IsAnswer (HaveItsKeys n (id_of d) (queried_document (id_of d) (history_in_rows (trees revs_tree) n (id_of d))) trees) b) numbered
+      (subst (λ i. IsAnswer (HaveItsKeys db i (queried_document i (history_in_rows (trees revs_tree) db i)) trees) b) named
+      (subst (λ o. IsAnswer (HaveItsKeys db id o trees) b) (ap (queried_document id) is ∙ queried_alone (history_in_rows (trees revs_tree) db id) id) told)))
 
 -- ---- the names that a design document declares
 
@@ -134,9 +134,9 @@ module _ (db : ℤ) (design : List ℕ) (h : HistoryContent) (trees : Trees) whe
 
 -- what is found of the index of a row is what the row says
 pub found_says : (db : _) → HasIndexRows db → (r : Row) → declaration_at (db.trees decls_tree) (number_of r) ≡ Some r
-    → find (is_declaration_of (home_of r) (design_of r) (index_name_of r)) (db.trees decls_tree) ≡ Some r
+    → find (is_declaration_of (database_of_declaration r) (design_of r) (index_name_of_row r)) (db.trees decls_tree) ≡ Some r
 found_says db fit r there =
-    (find_found (λ x. find (is_declaration_of (home_of x) (design_of x) (index_name_of x)) (db.trees decls_tree) ≡ Some x) (has_number (number_of r)) (db.trees decls_tree) r (index_found (db.trees decls_tree) fit.decls) there).0
+    (find_found (λ x. find (is_declaration_of (database_of_declaration x) (design_of x) (index_name_of_row x)) (db.trees decls_tree) ≡ Some x) (has_number (number_of r)) (db.trees decls_tree) r (index_found (db.trees decls_tree) fit.decls) there).0
 
 module _ (trees : Trees) (id : List ℕ) (seen : Value) (r : Row) (d : Declared) (same : d ≡ declared_at r) where
   -- it has no key there
@@ -160,9 +160,9 @@ pub shown_found : (db : _) → HasIndexRows db → (s r : Row) → declaration_a
     → (o : Option Declared) → o ≡ option_map declared_at (find (is_declaration_of n design name) (db.trees decls_tree)) → o ≡ Some (declared_at r)
 shown_found db fit s r there shown n design name home designed named o is =
     let own = (find_found IsDeclarationRow (has_number (number_of r)) (db.trees decls_tree) r fit.decls.each there).0.is in
-    let n_is = home (home_of r) (ap (λ x. column x 0) shown ∙ ap (λ x. column x 2) own) in
+    let n_is = home (database_of_declaration r) (ap (λ x. column x 0) shown ∙ ap (λ x. column x 2) own) in
     let design_is = designed (design_of r) (ap (λ x. column x 1) shown ∙ ap (λ x. column x 3) own) in
-    let name_is = named (index_name_of r) (ap (λ x. column x 2) shown ∙ ap (λ x. column x 4) own) in
+    let name_is = named (index_name_of_row r) (ap (λ x. column x 2) shown ∙ ap (λ x. column x 4) own) in
     is ∙ ap (option_map declared_at) ((λ j. find (is_declaration_of (n_is j) (design_is j) (name_is j)) (db.trees decls_tree)) ∙ found_says db fit r there)
 
 -- ---- the rows of several names
@@ -242,21 +242,21 @@ home_answer db id seen sees trees b same h =
     subst (λ o. IsAnswer (HaveItsKeys db id o trees) b) same
     (answer_as (AllByRecursion (HasItsKey id seen trees) (filter (is_at_home db) (trees decls_tree))) (HaveItsKeys db id seen trees) b (to (trees decls_tree)) (from (trees decls_tree)) h)
   where
-    to : (rows : List Row) → AllByRecursion (HasItsKey id seen trees) (filter (is_at_home db) rows) → AllByRecursion (λ r. home_of r ≡ db → HasItsKey id seen trees r) rows
+    to : (rows : List Row) → AllByRecursion (HasItsKey id seen trees) (filter (is_at_home db) rows) → AllByRecursion (λ r. database_of_declaration r ≡ db → HasItsKey id seen trees r) rows
     to [] all = tt
     to (r ∷ rows) all = go (is_at_home db r) refl all (to rows)
       where
         go : (b : Bool) → is_at_home db r ≡ b → AllByRecursion (HasItsKey id seen trees) (cond b (r ∷ filter (is_at_home db) rows) (filter (is_at_home db) rows))
-            → (AllByRecursion (HasItsKey id seen trees) (filter (is_at_home db) rows) → AllByRecursion (λ r. home_of r ≡ db → HasItsKey id seen trees r) rows) → AllByRecursion (λ r. home_of r ≡ db → HasItsKey id seen trees r) (r ∷ rows)
+            → (AllByRecursion (HasItsKey id seen trees) (filter (is_at_home db) rows) → AllByRecursion (λ r. database_of_declaration r ≡ db → HasItsKey id seen trees r) rows) → AllByRecursion (λ r. database_of_declaration r ≡ db → HasItsKey id seen trees r) (r ∷ rows)
         go true at k more = (λ home. k.0, more k.1)
-        go false at k more = (λ home. absurd (let own = same_number (home_of r) db home in let out = at in cc), more k)
+        go false at k more = (λ home. absurd (let own = same_number (database_of_declaration r) db home in let out = at in cc), more k)
 
-    from : (rows : List Row) → AllByRecursion (λ r. home_of r ≡ db → HasItsKey id seen trees r) rows → AllByRecursion (HasItsKey id seen trees) (filter (is_at_home db) rows)
+    from : (rows : List Row) → AllByRecursion (λ r. database_of_declaration r ≡ db → HasItsKey id seen trees r) rows → AllByRecursion (HasItsKey id seen trees) (filter (is_at_home db) rows)
     from [] all = tt
     from (r ∷ rows) all = go (is_at_home db r) refl (from rows all.1)
       where
         go : (b : Bool) → is_at_home db r ≡ b → AllByRecursion (HasItsKey id seen trees) (filter (is_at_home db) rows) → AllByRecursion (HasItsKey id seen trees) (cond b (r ∷ filter (is_at_home db) rows) (filter (is_at_home db) rows))
-        go true at k = (all.0 (same_int (home_of r) db at), k)
+        go true at k = (all.0 (same_int (database_of_declaration r) db at), k)
         go false at k = k
 
 -- members that are indexes

@@ -1,16 +1,16 @@
 -- What the rows of a query by key say of the tables.
-use Rattle.tables.proofs.Common.{Bool, IsPermutation, List, Row, Trees, [], ap, cond, dbs_tree, docs_tree, false, filter, has_number, is_of, length, id_of, int_eq, is_in, length-map, length_permutation, list_any, list_any-IsPermutation, listed_document, map, option_map, refl, revs_tree, slice_get, slice_get-filter, true, ℕ, ℤ, ◌∙◌, ◌∷◌, ◌≡◌, ◌||◌, arith, nat_tests, bytes, bytes_eq, column, sym, whole_in, ◌&&◌}
+use Rattle.tables.proofs.Common.{Bool, IsPermutation, List, Row, Trees, [], ap, cond, dbs_tree, docs_tree, false, filter, has_number, is_row_of_document, length, id_of, int_eq, is_row_of_database, length-map, length_permutation, list_any, list_any-IsPermutation, listed_document, map, option_map, refl, revs_tree, slice_get, slice_get-filter, true, ℕ, ℤ, ◌∙◌, ◌∷◌, ◌≡◌, ◌||◌, arith, nat_tests, bytes, bytes_eq, column, sym, whole_in_cell, ◌&&◌}
 use Rattle.std.specs.Prelude.{nat_lt}
 use Rattle.file_check.specs.inner.Queries.{is_numbered, is_shown_hash, is_stored, length_at, length_shown, shown_length, shown_numbered, shown_stored}
 
-first_shown : (rows : List Row) → length_shown (map shown_length rows) ≡ option_map (λ d. whole_in (column d 4)) (slice_get rows 0)
+first_shown : (rows : List Row) → length_shown (map shown_length rows) ≡ option_map (λ d. whole_in_cell (column d 4)) (slice_get rows 0)
 first_shown [] = refl
 first_shown (d ∷ rows) = refl
 
 pub lengths_found : (trees : Trees) (db : ℤ) (rows : List Row) → rows ≡ map shown_length (filter (has_number db) (trees dbs_tree)) → length_shown rows ≡ length_at trees db
 lengths_found trees db rows is =
     ap length_shown is ∙ first_shown (filter (has_number db) (trees dbs_tree))
-    ∙ ap (option_map (λ d. whole_in (column d 4))) (slice_get-filter (has_number db) (trees dbs_tree))
+    ∙ ap (option_map (λ d. whole_in_cell (column d 4))) (slice_get-filter (has_number db) (trees dbs_tree))
 
 some_left : (p : Row → Bool) (rows : List Row) → nat_lt 0 (length (filter p rows)) ≡ list_any p rows
 some_left p [] = refl
@@ -20,9 +20,9 @@ some_left p (r ∷ rows) = by (p r) (some_left p rows)
     by true rest = grind (arith, nat_tests)
     by false rest = rest
 
-pub documents_found : (trees : Trees) (db : ℤ) (id : List ℕ) (rows : List Row) → rows ≡ map listed_document (filter (is_of db id) (trees docs_tree)) → nat_lt 0 (length rows) ≡ list_any (is_of db id) (trees docs_tree)
+pub documents_found : (trees : Trees) (db : ℤ) (id : List ℕ) (rows : List Row) → rows ≡ map listed_document (filter (is_row_of_document db id) (trees docs_tree)) → nat_lt 0 (length rows) ≡ list_any (is_row_of_document db id) (trees docs_tree)
 documents_found trees db id rows is =
-    ap (λ l. nat_lt 0 (length l)) is ∙ ap (nat_lt 0) (length-map (filter (is_of db id) (trees docs_tree)) listed_document) ∙ some_left (is_of db id) (trees docs_tree)
+    ap (λ l. nat_lt 0 (length l)) is ∙ ap (nat_lt 0) (length-map (filter (is_row_of_document db id) (trees docs_tree)) listed_document) ∙ some_left (is_row_of_document db id) (trees docs_tree)
 
 pub stored_found : (trees : Trees) (db : ℤ) (id : List ℕ) (number : ℤ) (hash : List ℕ) (rows : List Row) → IsPermutation (map shown_stored (filter (is_stored db id number hash) (trees revs_tree))) rows
     → nat_lt 0 (length rows) ≡ list_any (is_stored db id number hash) (trees revs_tree)
@@ -49,4 +49,4 @@ pub hashes_found : (trees : Trees) (db : ℤ) (id : List ℕ) (number : ℤ) (ha
     → list_any (is_shown_hash hash) rows ≡ list_any (is_stored db id number hash) (trees revs_tree)
 hashes_found trees db id number hash rows same =
     sym (list_any-IsPermutation (is_shown_hash hash) (map shown_numbered (filter (is_numbered db id number) (trees revs_tree))) rows same) ∙ any_shown hash (is_numbered db id number) (trees revs_tree)
-    ∙ (λ i. list_any (λ r. regrouped (is_in db r) (bytes_eq (id_of r) id) (int_eq (whole_in (column r 3)) number) (bytes_eq (bytes (column r 4)) hash) i) (trees revs_tree))
+    ∙ (λ i. list_any (λ r. regrouped (is_row_of_database db r) (bytes_eq (id_of r) id) (int_eq (whole_in_cell (column r 3)) number) (bytes_eq (bytes (column r 4)) hash) i) (trees revs_tree))

@@ -7,7 +7,7 @@ use Rattle.sqlite.specs.State.{HasCleanDisk}
 use Rattle.sqlite_trees.specs.Tree.{Trees}
 use Rattle.sqlite_trees.specs.declared.store.Store.{Ghosts}
 use Rattle.sqlite_value.specs.Order.{Row}
-use Rattle.tables.specs.Calls.{Stands}
+use Rattle.tables.specs.Calls.{KeepsConnection}
 use Rattle.tables.specs.Schema.{schema}
 use Rattle.tables.specs.Steps.{Asks, OnlyLooks}
 use Rattle.index.specs.Calls.{IsRefused, IsSound}
@@ -52,7 +52,7 @@ module _ {S : Type 0} (g : Ghosts S) (a b : Held S) (Tells : Trees → Option De
 
   -- what was found is told
   pub index_told : (r : Result (Option Declaration) IndexFault) (told : Result (Option Declaration) CheckFault) → (HasCleanDisk (state g b) → HasIndexRows (state g a).now → IfOk r (Tells (state g a).now.trees))
-      → IfErr r (IsRefused (IsSound g a b)) → Stands g a b r → (a.schema ≡ schema → OnlyLooks (state g a) (state g b)) → Asks (state g a) (state g b) → TellsFound r told → Told told
+      → IfErr r (IsRefused (IsSound g a b)) → KeepsConnection g a b r → (a.schema ≡ schema → OnlyLooks (state g a) (state g b)) → Asks (state g a) (state g b) → TellsFound r told → Told told
   index_told (Ok found) told ok err stands looks asks is =
       subst Told (sym is) (record {
         tells = ok;

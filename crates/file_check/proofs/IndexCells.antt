@@ -1,5 +1,5 @@
 -- What SQLite keeps of the rows of indexes: cells of the kinds of their columns, and unique keys.
-use Rattle.index.proofs.Common.{AllByRecursion, AreEntryRows, AreNumbered, Binary, Blob, Bool, Database, Eq, Int, IsAscending, IsEntryRow, List, Null, Row, Text, [], all_both, all_weaker, and_from, and_parts, ap, arith, column, declaration_of, decls_tree, design_of, entries_tree, entry_id, false, home_of, index_name_of, int_by, ints, key_of, list_any, none_from_any, not, number_of, refl, rowid, same_blob, schema, true, ℕ, ℤ, ◌&&◌, ◌<ℤ◌, ◌∙◌, ◌∷◌, ◌≡◌, ◌≢◌, drop, decls_table, entries_table, int_eq, same_int}
+use Rattle.index.proofs.Common.{AllByRecursion, AreEntryRows, AreNumbered, Binary, Blob, Bool, Database, Eq, Int, IsAscending, IsEntryRow, List, Null, Row, Text, [], all_both, all_weaker, and_from, and_parts, ap, arith, column, declaration_of, decls_tree, design_of, entries_tree, entry_id, false, database_of_declaration, index_name_of_row, int_by, ints, key_of, list_any, none_from_any, not, number_of, refl, rowid, same_blob, schema, true, ℕ, ℤ, ◌&&◌, ◌<ℤ◌, ◌∙◌, ◌∷◌, ◌≡◌, ◌≢◌, drop, decls_table, entries_table, int_eq, same_int}
 use Rattle.std.proofs.Common.{inl, inr}
 use Rattle.std.proofs.lemmas.Bool.{false_from_ne_true}
 use Rattle.index.proofs.EntryChanges.{same_bytes, same_number}
@@ -15,12 +15,12 @@ use Rattle.sqlite_value.specs.Keys.{first_key, plain}
 use Rattle.sqlite_value.specs.Order.{bytes}
 use Rattle.sqlite_value.specs.declared.value.Value.{Value}
 use Rattle.sqlite_value.specs.declared.value.Value.TheVariants.{Real}
-use Rattle.tables.specs.Rows.{whole_in}
+use Rattle.tables.specs.Rows.{whole_in_cell}
 use Rattle.file_check.specs.Indexes.{AreDeclarationCells, HasDeclarationCells, HasIndexCells}
 
 -- ---- kinds
 
-integer : (v : Value) → is_of kind.Integer v ≡ true → not (is_null v) ≡ true → v ≡ Int (whole_in v)
+integer : (v : Value) → is_of kind.Integer v ≡ true → not (is_null v) ≡ true → v ≡ Int (whole_in_cell v)
 integer Null t n = absurd (cc)
 integer (Int m) t n = refl
 integer (Real x) t n = absurd (cc)
@@ -132,12 +132,12 @@ entry_apart a b k l below none d key id =
     cc
 
 declaration_apart : (a b : Row) → HasDeclarationCells a → HasDeclarationCells b → number_of a <ℤ number_of b → (agree plain (2 ∷ 3 ∷ 4 ∷ []) a (2 ∷ 3 ∷ 4 ∷ []) b && differ (rowid a) (rowid b)) ≡ false
-    → home_of a ≡ home_of b → design_of a ≡ design_of b → index_name_of a ≢ index_name_of b
+    → database_of_declaration a ≡ database_of_declaration b → design_of a ≡ design_of b → index_name_of_row a ≢ index_name_of_row b
 declaration_apart a b k l below none home design name =
     let same : agree plain (2 ∷ 3 ∷ 4 ∷ []) a (2 ∷ 3 ∷ 4 ∷ []) b ≡ true =
-    and_from _ _ (ints_equal (column a 2) (column b 2) (home_of a) (home_of b) (ap (λ x. column x 2) k) (ap (λ x. column x 2) l) home)
+    and_from _ _ (ints_equal (column a 2) (column b 2) (database_of_declaration a) (database_of_declaration b) (ap (λ x. column x 2) k) (ap (λ x. column x 2) l) home)
     (and_from _ _ (blobs_equal (column a 3) (column b 3) (design_of a) (design_of b) (ap (λ x. column x 3) k) (ap (λ x. column x 3) l) design)
-    (and_from _ _ (blobs_equal (column a 4) (column b 4) (index_name_of a) (index_name_of b) (ap (λ x. column x 4) k) (ap (λ x. column x 4) l) name) refl)) in
+    (and_from _ _ (blobs_equal (column a 4) (column b 4) (index_name_of_row a) (index_name_of_row b) (ap (λ x. column x 4) k) (ap (λ x. column x 4) l) name) refl)) in
     let clash = and_from _ _ same (numbers_differ a b (ap rowid k) (ap rowid l) below) in
     cc
 

@@ -1,5 +1,5 @@
 -- The rows of indexes are those of what is stored if and only if each of them is, and none is missing.
-use Rattle.index.proofs.Common.{AllByRecursion, AreDeclarationRows, AreEntryRows, Bool, IsDeclarationRow, IsIndexed, List, None, Option, Row, Some, Text, Trees, [], all_both, all_of, all_weaker, ap, cond, declaration_at, declaration_of, declares_in, decls_tree, design_of, entries_tree, entry_id, false, fields_in_cell, fields_of, fields_text, find, find_found, has_entry, has_number, home_of, index_name_of, is_declaration_of, is_due, is_due_by, is_entry_of, is_key, key_if_seen, key_of, list_any, number_of, option_map, refl, same_int, sees_in, subst, sym, true, inl, inr, ℕ, ℤ, ◌||◌, ◌∙◌, ◌∷◌, ◌≡◌, column}
+use Rattle.index.proofs.Common.{AllByRecursion, AreDeclarationRows, AreEntryRows, Bool, IsDeclarationRow, IsIndexed, List, None, Option, Row, Some, Text, Trees, [], all_both, all_of, all_weaker, ap, cond, declaration_at, declaration_of, declares_in, decls_tree, design_of, entries_tree, entry_id, false, fields_in_cell, fields_of, fields_text, find, find_found, has_entry, has_number, database_of_declaration, index_name_of_row, is_declaration_of, is_due, is_due_by, is_entry_of, is_key, key_if_seen, key_of, list_any, number_of, option_map, refl, same_int, sees_in, subst, sym, true, inl, inr, ℕ, ℤ, ◌||◌, ◌∙◌, ◌∷◌, ◌≡◌, column}
 use Rattle.couch_json.specs.FieldPath.{is_field_path}
 use Rattle.sqlite_value.specs.Order.{bytes}
 use Rattle.std.specs.FinMap.{empty}
@@ -16,8 +16,8 @@ use Rattle.store.specs.Indexes.{index_fields_of, declared_fields, winning_body}
 use Rattle.store.specs.Pages.{live_rev, live_rev_by}
 use Rattle.tables.proofs.Lookups.{unwritten}
 use Rattle.tables.proofs.Tables.{of_these}
-use Rattle.tables.specs.Layout.{IsLaid}
-use Rattle.tables.specs.Rows.{db_of, id_of, is_of}
+use Rattle.tables.specs.Layout.{IsWellFormed}
+use Rattle.tables.specs.Rows.{db_of, id_of, is_row_of_document}
 use Rattle.tables.specs.Schema.{docs_tree}
 use Rattle.tree.specs.DocumentId.{is_design_id}
 use Rattle.file_check.specs.Indexes.{AreDeclarationCells, AreIndexRows, HasDeclarationCells, HasItsKey, IsFinding, IsIndexFinding, IsIndexedDocument, IsOwnDeclaration, IsOwnEntry}
@@ -74,8 +74,8 @@ declares_nothing design name = ap (λ r. if is_design_id design then Rattle.std.
     hidden true = refl
     hidden false = refl
 
-pub undeclared : (trees : Trees) → IsLaid trees → (db : ℤ) (design name : List ℕ) → list_any (is_of db design) (trees docs_tree) ≡ false → declares_in trees db design name ≡ None
-undeclared trees l db design name none = ap (λ h. index_fields_of design h name) (unwritten trees db design l (any_none (is_of db design) (trees docs_tree) none)) ∙ declares_nothing design name
+pub undeclared : (trees : Trees) → IsWellFormed trees → (db : ℤ) (design name : List ℕ) → list_any (is_row_of_document db design) (trees docs_tree) ≡ false → declares_in trees db design name ≡ None
+undeclared trees l db design name none = ap (λ h. index_fields_of design h name) (unwritten trees db design l (any_none (is_row_of_document db design) (trees docs_tree) none)) ∙ declares_nothing design name
 
 -- ---- one declaration
 
@@ -85,13 +85,13 @@ own_text r k = ap (λ x. bytes (column x 5)) k.is
 
 -- where a row spells the fields of an index, it is laid out and says them
 pub spelled : (trees : Trees) (r : Row) (fields : List (List ℕ)) → HasDeclarationCells r → AllByRecursion (λ path. (is_field_path path ≡ true) × IsUtf8 path) fields → bytes (column r 5) ≡ fields_text fields
-    → declares_in trees (home_of r) (design_of r) (index_name_of r) ≡ Some fields → IsOwnDeclaration trees r
+    → declares_in trees (database_of_declaration r) (design_of r) (index_name_of_row r) ≡ Some fields → IsOwnDeclaration trees r
 spelled trees r fields cells paths same declared =
     let cell : column r 5 ≡ Text (fields_text fields) = ap (λ x. column x 5) cells ∙ ap Text same in
     let back : fields_of r ≡ fields = ap fields_in_cell cell ∙ fields_back fields paths in
     record {
       row = record {
-        is = cells ∙ ap (λ t. Rattle.index.specs.Rows.declaration_row (number_of r) (home_of r) (design_of r) (index_name_of r) t) (same ∙ ap fields_text (sym back));
+        is = cells ∙ ap (λ t. Rattle.index.specs.Rows.declaration_row (number_of r) (database_of_declaration r) (design_of r) (index_name_of_row r) t) (same ∙ ap fields_text (sym back));
         paths = subst (AllByRecursion (λ path. (is_field_path path ≡ true) × IsUtf8 path)) (sym back) paths;
       };
       declared = declared ∙ ap Some (sym back);
@@ -99,7 +99,7 @@ spelled trees r fields cells paths same declared =
 
 -- ---- each row is, so all are
 
-module _ (trees : Trees) (l : IsLaid trees) (cells : AreDeclarationCells (trees decls_tree)) where
+module _ (trees : Trees) (l : IsWellFormed trees) (cells : AreDeclarationCells (trees decls_tree)) where
   pub declaration_rows : AllByRecursion (IsOwnDeclaration trees) (trees decls_tree) → AreDeclarationRows (trees decls_tree)
   declaration_rows own = record {
     each = all_weaker (IsOwnDeclaration trees) IsDeclarationRow (λ r k. k.row) (trees decls_tree) own;
@@ -113,13 +113,13 @@ module _ (trees : Trees) (l : IsLaid trees) (cells : AreDeclarationCells (trees 
 
     -- an index that has no row is not declared
     rowless : (db : ℤ) (design name : List ℕ) → find (is_declaration_of db design name) decls ≡ None → declares_in trees db design name ≡ None
-    rowless db design name none = by (list_any (is_of db design) (trees docs_tree)) refl (declares_in trees db design name) refl
+    rowless db design name none = by (list_any (is_row_of_document db design) (trees docs_tree)) refl (declares_in trees db design name) refl
       where
-        by : (b : Bool) → list_any (is_of db design) (trees docs_tree) ≡ b → (o : Option (List (List ℕ))) → declares_in trees db design name ≡ o → declares_in trees db design name ≡ None
+        by : (b : Bool) → list_any (is_row_of_document db design) (trees docs_tree) ≡ b → (o : Option (List (List ℕ))) → declares_in trees db design name ≡ o → declares_in trees db design name ≡ None
         by false out o is = undeclared trees l db design name out
         by true here None is = is
         by true here (Some fields) is =
-            let d = any_in (is_of db design) (trees docs_tree) here in
+            let d = any_in (is_row_of_document db design) (trees docs_tree) here in
             let keys = of_these db design d.0 d.2 in
             let has = at_in (IsIndexedDocument trees) (trees docs_tree) d.0 h.documents d.1 in
             let row : list_any (is_declaration_of db design name) decls ≡ true =
@@ -138,21 +138,21 @@ module _ (trees : Trees) (l : IsLaid trees) (cells : AreDeclarationCells (trees 
     -- an entry that is to be there is there
     entered : (m : ℤ) (k id : List ℕ) (o : Option Row) → declaration_at decls m ≡ o → is_due_by (sees_in trees) o k id ≡ true → has_entry (trees entries_tree) m k id ≡ true
     entered m k id None is due = absurd (cc)
-    entered m k id (Some d) is due = by (list_any (is_of (home_of d) id) (trees docs_tree)) refl
+    entered m k id (Some d) is due = by (list_any (is_row_of_document (database_of_declaration d) id) (trees docs_tree)) refl
       where
-        key : key_if_seen (fields_of d) (sees_in trees (home_of d) id) ≡ Some k
-        key = key_is (key_if_seen (fields_of d) (sees_in trees (home_of d) id)) k due
+        key : key_if_seen (fields_of d) (sees_in trees (database_of_declaration d) id) ≡ Some k
+        key = key_is (key_if_seen (fields_of d) (sees_in trees (database_of_declaration d) id)) k due
 
-        by : (b : Bool) → list_any (is_of (home_of d) id) (trees docs_tree) ≡ b → has_entry (trees entries_tree) m k id ≡ true
-        by false out = absurd (let never = sym (ap (key_if_seen (fields_of d)) (unwritten_unseen trees l (home_of d) id out)) ∙ key in cc)
+        by : (b : Bool) → list_any (is_row_of_document (database_of_declaration d) id) (trees docs_tree) ≡ b → has_entry (trees entries_tree) m k id ≡ true
+        by false out = absurd (let never = sym (ap (key_if_seen (fields_of d)) (unwritten_unseen trees l (database_of_declaration d) id out)) ∙ key in cc)
         by true here =
-            let x = any_in (is_of (home_of d) id) (trees docs_tree) here in
-            let keys = of_these (home_of d) id x.0 x.2 in
+            let x = any_in (is_row_of_document (database_of_declaration d) id) (trees docs_tree) here in
+            let keys = of_these (database_of_declaration d) id x.0 x.2 in
             let all = at_in (IsIndexedDocument trees) (trees docs_tree) x.0 h.documents x.1 in
-            let own = find_found (λ r. home_of r ≡ db_of x.0 → HasItsKey (id_of x.0) (sees_in trees (db_of x.0) (id_of x.0)) trees r) (has_number m) decls d all.entered is in
+            let own = find_found (λ r. database_of_declaration r ≡ db_of x.0 → HasItsKey (id_of x.0) (sees_in trees (db_of x.0) (id_of x.0)) trees r) (has_number m) decls d all.entered is in
             let number = same_int (number_of d) m own.1 in
             subst (λ n. has_entry (trees entries_tree) n k id ≡ true) number
-            ((subst (λ i. HasItsKey i (sees_in trees (home_of d) i) trees d) keys.1 (subst (λ h. HasItsKey (id_of x.0) (sees_in trees h (id_of x.0)) trees d) keys.0 (own.0 (sym keys.0)))) k key)
+            ((subst (λ i. HasItsKey i (sees_in trees (database_of_declaration d) i) trees d) keys.1 (subst (λ h. HasItsKey (id_of x.0) (sees_in trees h (id_of x.0)) trees d) keys.0 (own.0 (sym keys.0)))) k key)
 
     -- an entry that is there is to be there
     owned : (m : ℤ) (k id : List ℕ) → has_entry (trees entries_tree) m k id ≡ true → is_due (sees_in trees) decls m k id ≡ true
@@ -180,21 +180,21 @@ module _ (trees : Trees) (h : IsIndexed trees) where
 
   each_declared : AllByRecursion (IsOwnDeclaration trees) rows
   each_declared =
-      all_both IsDeclarationRow (λ r. find (is_declaration_of (home_of r) (design_of r) (index_name_of r)) rows ≡ Some r) (IsOwnDeclaration trees)
-      (λ r k found. record { row = k; declared = sym (h.declared (home_of r) (design_of r) (index_name_of r)) ∙ ap (option_map fields_of) found }) rows h.decls.each (index_found rows h.decls)
+      all_both IsDeclarationRow (λ r. find (is_declaration_of (database_of_declaration r) (design_of r) (index_name_of_row r)) rows ≡ Some r) (IsOwnDeclaration trees)
+      (λ r k found. record { row = k; declared = sym (h.declared (database_of_declaration r) (design_of r) (index_name_of_row r)) ∙ ap (option_map fields_of) found }) rows h.decls.each (index_found rows h.decls)
 
   has_row : (db : ℤ) (design name : List ℕ) (fields : List (List ℕ)) (o : Option Row) → find (is_declaration_of db design name) rows ≡ o → option_map fields_of o ≡ Some fields → list_any (is_declaration_of db design name) rows ≡ true
   has_row db design name fields None is says = absurd (cc)
   has_row db design name fields (Some r) is says = some_any (is_declaration_of db design name) rows r is
 
-  has_its : (db : ℤ) (id : List ℕ) (r : Row) → declaration_at rows (number_of r) ≡ Some r → home_of r ≡ db → HasItsKey id (sees_in trees db id) trees r
+  has_its : (db : ℤ) (id : List ℕ) (r : Row) → declaration_at rows (number_of r) ≡ Some r → database_of_declaration r ≡ db → HasItsKey id (sees_in trees db id) trees r
   has_its db id r found home k key =
       h.entries.exact (number_of r) k id ∙ ap (λ o. is_due_by (sees_in trees) o k id) found ∙ ap (λ n. is_key (key_if_seen (fields_of r) (sees_in trees n id)) k) home ∙ ap (λ o. is_key o k) key ∙ same_bytes k k refl
 
   one_document : (d : Row) → IsIndexedDocument trees d
   one_document d = record {
     declared = λ name fields says. has_row (db_of d) (id_of d) name fields (find (is_declaration_of (db_of d) (id_of d) name) rows) refl (h.declared (db_of d) (id_of d) name ∙ says);
-    entered = all_weaker (λ r. declaration_at rows (number_of r) ≡ Some r) (λ r. home_of r ≡ db_of d → HasItsKey (id_of d) (sees_in trees (db_of d) (id_of d)) trees r) (λ r found home. has_its (db_of d) (id_of d) r found home) rows (found_each rows h.decls.rising);
+    entered = all_weaker (λ r. declaration_at rows (number_of r) ≡ Some r) (λ r. database_of_declaration r ≡ db_of d → HasItsKey (id_of d) (sees_in trees (db_of d) (id_of d)) trees r) (λ r found home. has_its (db_of d) (id_of d) r found home) rows (found_each rows h.decls.rising);
   }
 
   each_entry : AllByRecursion (IsOwnEntry trees) (trees entries_tree)

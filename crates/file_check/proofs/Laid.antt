@@ -1,5 +1,5 @@
 -- Tables that are laid out have rows that are sound, and are kept as SQLite keeps them.
-use Rattle.tables.proofs.Common.{AreLawful, AreNumbered, Int, IsDocumentRow, IsLaid, IsRevisionRow, IsTrue, List, None, Null, Option, Real, Revision, Row, Some, Text, Blob, Trees, Value, all_both, all_weaker, any_is_found, ap, ap₂, bytes_eq-Decides, contents_in, database_of, db_of, dbs_tree, docs_tree, document_of, Decides-int_eq, find, has_number, history_in, id_of, is_leaf, is_named, is_of, is_some, held_of, length, name_of, number_of, option_map, refl, revs_tree, rowid, same_int, slice_get-filter, subst, sym, true, value_cmp, value_cmp-Int, whole_in, ℤ, ◌<ℤ◌, ◌∙◌, ◌≡◌, Less}
+use Rattle.tables.proofs.Common.{AreLawful, AreNumbered, Int, IsDocumentRow, IsWellFormed, IsRevisionRow, IsTrue, List, None, Null, Option, Real, Revision, Row, Some, Text, Blob, Trees, Value, all_both, all_weaker, any_is_found, ap, ap₂, bytes_eq-Decides, contents_in, database_of_row, db_of, dbs_tree, docs_tree, document_of_row, Decides-int_eq, find, has_number, history_in_rows, id_of, is_leaf, is_named, is_row_of_document, is_some, held_of, length, name_of, number_of, option_map, refl, revs_tree, rowid, same_int, slice_get-filter, subst, sym, true, value_cmp, value_cmp-Int, whole_in_cell, ℤ, ◌<ℤ◌, ◌∙◌, ◌≡◌, Less}
 use Rattle.std.proofs.Math.Bool.{Bool-set}
 use Rattle.std.proofs.Math.Logic.{∥∥₁_elim}
 use Rattle.std.specs.FinMap as finite
@@ -16,30 +16,30 @@ use Rattle.tree.specs.History.{HistoryContent}
 use Rattle.file_check.specs.Tables.{AreKept, HasSoundLocals, IsSoundDocument}
 use Rattle.file_check.proofs.Assembled.{In, each_in, found_one}
 
-module _ (trees : Trees) (h : IsLaid trees) where
-  database_there : (d : Row) → In (trees dbs_tree) d → finite.get (contents_in trees) (name_of d) ≡ Some (database_of trees d)
+module _ (trees : Trees) (h : IsWellFormed trees) where
+  database_there : (d : Row) → In (trees dbs_tree) d → finite.get (contents_in trees) (name_of d) ≡ Some (database_of_row trees d)
   database_there d i =
       database_found trees (name_of d)
-      ∙ ap (option_map (database_of trees)) (slice_get-filter (is_named (name_of d)) (trees dbs_tree) ∙ found_one (is_named (name_of d)) (trees dbs_tree) d (one_named (trees dbs_tree) h.names_apart (name_of d)) i ((bytes_eq-Decides (name_of d) (name_of d)).1 refl))
+      ∙ ap (option_map (database_of_row trees)) (slice_get-filter (is_named (name_of d)) (trees dbs_tree) ∙ found_one (is_named (name_of d)) (trees dbs_tree) d (one_named (trees dbs_tree) h.names_apart (name_of d)) i ((bytes_eq-Decides (name_of d) (name_of d)).1 refl))
 
-  own_id : (n : ℤ) (r : Row) → db_of r ≡ n → is_of n (id_of r) r ≡ true
+  own_id : (n : ℤ) (r : Row) → db_of r ≡ n → is_row_of_document n (id_of r) r ≡ true
   own_id n r is = rw ((Decides-int_eq (db_of r) n).1 is, (bytes_eq-Decides (id_of r) (id_of r)).1 refl) refl
 
-  document_there : (d r : Row) → In (trees docs_tree) r → db_of r ≡ number_of d → finite.get (database_of trees d).documents (id_of r) ≡ Some (document_of (trees revs_tree) r)
+  document_there : (d r : Row) → In (trees docs_tree) r → db_of r ≡ number_of d → finite.get (database_of_row trees d).documents (id_of r) ≡ Some (document_of_row (trees revs_tree) r)
   document_there d r i is =
-      get_id (number_of d) (id_of r) (document_of (trees revs_tree)) (trees docs_tree)
-      ∙ ap (option_map (document_of (trees revs_tree))) (slice_get-filter (is_of (number_of d) (id_of r)) (trees docs_tree) ∙ found_one (is_of (number_of d) (id_of r)) (trees docs_tree) r (one_of (trees docs_tree) h.ids_apart (number_of d) (id_of r)) i (own_id (number_of d) r is))
+      get_id (number_of d) (id_of r) (document_of_row (trees revs_tree)) (trees docs_tree)
+      ∙ ap (option_map (document_of_row (trees revs_tree))) (slice_get-filter (is_row_of_document (number_of d) (id_of r)) (trees docs_tree) ∙ found_one (is_row_of_document (number_of d) (id_of r)) (trees docs_tree) r (one_of (trees docs_tree) h.ids_apart (number_of d) (id_of r)) i (own_id (number_of d) r is))
 
-  history_written : AreLawful (contents_in trees) → (r : Row) → In (trees docs_tree) r → IsDocumentRow trees r → IsWritten (history_in (trees revs_tree) (db_of r) (id_of r))
+  history_written : AreLawful (contents_in trees) → (r : Row) → In (trees docs_tree) r → IsDocumentRow trees r → IsWritten (history_in_rows (trees revs_tree) (db_of r) (id_of r))
   history_written lawful r i k = by (find (has_number (db_of r)) (trees dbs_tree)) refl (sym (any_is_found (has_number (db_of r)) (trees dbs_tree)) ∙ k.there)
     where
-      by : (o : Option Row) → find (has_number (db_of r)) (trees dbs_tree) ≡ o → is_some o ≡ true → IsWritten (history_in (trees revs_tree) (db_of r) (id_of r))
+      by : (o : Option Row) → find (has_number (db_of r)) (trees dbs_tree) ≡ o → is_some o ≡ true → IsWritten (history_in_rows (trees revs_tree) (db_of r) (id_of r))
       by None is some = absurd cc
       by (Some d) is some =
           let at = find_found (In (trees dbs_tree)) (has_number (db_of r)) (trees dbs_tree) d (each_in (trees dbs_tree)) is in
-          (lawful (name_of d) (database_of trees d) (database_there d at.0)).documents (id_of r) (document_of (trees revs_tree) r) (document_there d r i (sym (same_int (number_of d) (db_of r) at.1)))
+          (lawful (name_of d) (database_of_row trees d) (database_there d at.0)).documents (id_of r) (document_of_row (trees revs_tree) r) (document_there d r i (sym (same_int (number_of d) (db_of r) at.1)))
 
-  leaf_held : (r : Row) → In (trees docs_tree) r → IsDocumentRow trees r → (s : Revision) → IsTrue (is_leaf (history_in (trees revs_tree) (db_of r) (id_of r)) s) → AreLawful (contents_in trees) → is_some (held_of (history_in (trees revs_tree) (db_of r) (id_of r)) s) ≡ true
+  leaf_held : (r : Row) → In (trees docs_tree) r → IsDocumentRow trees r → (s : Revision) → IsTrue (is_leaf (history_in_rows (trees revs_tree) (db_of r) (id_of r)) s) → AreLawful (contents_in trees) → is_some (held_of (history_in_rows (trees revs_tree) (db_of r) (id_of r)) s) ≡ true
   leaf_held r i k s leaf lawful =
       let w = history_written lawful r i k in
       subst (λ (x : HistoryContent). is_some (held_of x s) ≡ true) (sym w.content) (leaf_is_held _ w.lawful s (subst (λ (x : HistoryContent). IsTrue (is_leaf x s)) w.content leaf))
@@ -70,7 +70,7 @@ module _ (trees : Trees) (h : IsLaid trees) where
 
 -- ---- trees of tables
 
-int_is : (v : Value) → IsTrue (is_int v) → v ≡ Int (whole_in v)
+int_is : (v : Value) → IsTrue (is_int v) → v ≡ Int (whole_in_cell v)
 int_is Null is = absurd cc
 int_is (Int n) is = refl
 int_is (Real x) is = absurd cc

@@ -1,5 +1,5 @@
 -- What is told of one row of an entry.
-use Rattle.index.proofs.Common.{Blob, Bool, HasIndexRows, Int, IsDeclarationRow, List, None, Option, Row, Some, Trees, ap, bytes_eq, column, declaration_at, declaration_of, declared, declared_at, decls_tree, design_of, entry_id, false, fields_of, find, find_found, has_number, home_of, index_name_of, is_declaration_of, is_due, is_due_by, is_key, key_at, key_if_seen, key_of, list_any, option_map, refl, sees_in, sym, true, ℕ, ℤ, ◌∙◌, ◌≡◌}
+use Rattle.index.proofs.Common.{Blob, Bool, HasIndexRows, Int, IsDeclarationRow, List, None, Option, Row, Some, Trees, ap, bytes_eq, column, declaration_at, declaration_of, declared, declared_at, decls_tree, design_of, entry_id, false, fields_of, find, find_found, has_number, database_of_declaration, index_name_of_row, is_declaration_of, is_due, is_due_by, is_key, key_at, key_if_seen, key_of, list_any, option_map, refl, sees_in, sym, true, ℕ, ℤ, ◌∙◌, ◌≡◌}
 use Rattle.couch_json.specs.Value.{Value}
 use Rattle.index.proofs.Alike.{index_found}
 use Rattle.index.proofs.Filled.{unwritten_unseen}
@@ -10,9 +10,9 @@ use Rattle.store.proofs.Winnings.{queried_alone}
 use Rattle.store.specs.Indexes.{queried_document}
 use Rattle.store.specs.Winning.{winner_alone}
 use Rattle.tables.proofs.Tables.{of_these}
-use Rattle.tables.specs.Layout.{IsDocumentRow, IsLaid}
+use Rattle.tables.specs.Layout.{IsDocumentRow, IsWellFormed}
 use Rattle.tables.specs.Listings.{SpellsId}
-use Rattle.tables.specs.Rows.{history_in, id_of, is_of}
+use Rattle.tables.specs.Rows.{history_in_rows, id_of, is_row_of_document}
 use Rattle.tables.specs.Schema.{docs_tree, revs_tree}
 use Rattle.tree.proofs.Shown.{inside}
 use Rattle.tree.specs.History.{HistoryContent}
@@ -20,13 +20,13 @@ use Rattle.file_check.specs.inner.IndexRows.{shown_index}
 use Rattle.file_check.specs.Indexes.{IsAnswer, IsOwnEntry}
 
 -- what is no id of a document is not seen
-pub unnamed_unseen : (trees : Trees) → IsLaid trees → (db : ℤ) (id : List ℕ) → ¬ SpellsId (Blob id) → sees_in trees db id ≡ None
-unnamed_unseen trees l db id out = by (list_any (is_of db id) (trees docs_tree)) refl
+pub unnamed_unseen : (trees : Trees) → IsWellFormed trees → (db : ℤ) (id : List ℕ) → ¬ SpellsId (Blob id) → sees_in trees db id ≡ None
+unnamed_unseen trees l db id out = by (list_any (is_row_of_document db id) (trees docs_tree)) refl
   where
-    by : (b : Bool) → list_any (is_of db id) (trees docs_tree) ≡ b → sees_in trees db id ≡ None
+    by : (b : Bool) → list_any (is_row_of_document db id) (trees docs_tree) ≡ b → sees_in trees db id ≡ None
     by false none = unwritten_unseen trees l db id none
     by true here =
-        let d = any_in (is_of db id) (trees docs_tree) here in
+        let d = any_in (is_row_of_document db id) (trees docs_tree) here in
         let row = at_in (IsDocumentRow trees) (trees docs_tree) d.0 l.docs d.1 in
         let same = (of_these db id d.0 d.2).1 in
         absurd (out (id_of d.0, row.named, row.text, ap Blob (sym same)))
@@ -41,37 +41,37 @@ module _ (trees : Trees) (e : Row) where
   undeclared_entry none = answered false (ap (λ o. is_due_by (sees_in trees) o (key_of e) (entry_id e)) none)
 
   module _ (d : Row) (there : declaration_at (trees decls_tree) (declaration_of e) ≡ Some d) where
-    due_by : (o : Option Value) → sees_in trees (home_of d) (entry_id e) ≡ o → is_due (sees_in trees) (trees decls_tree) (declaration_of e) (key_of e) (entry_id e) ≡ is_key (key_if_seen (fields_of d) o) (key_of e)
+    due_by : (o : Option Value) → sees_in trees (database_of_declaration d) (entry_id e) ≡ o → is_due (sees_in trees) (trees decls_tree) (declaration_of e) (key_of e) (entry_id e) ≡ is_key (key_if_seen (fields_of d) o) (key_of e)
     due_by o is = ap (λ x. is_due_by (sees_in trees) x (key_of e) (entry_id e)) there ∙ ap (λ v. is_key (key_if_seen (fields_of d) v) (key_of e)) is
 
     -- its document is not seen
-    pub unseen_entry : sees_in trees (home_of d) (entry_id e) ≡ None → IsAnswer (IsOwnEntry trees e) false
+    pub unseen_entry : sees_in trees (database_of_declaration d) (entry_id e) ≡ None → IsAnswer (IsOwnEntry trees e) false
     unseen_entry none = answered false (due_by None none)
 
     -- it has no key there
-    pub keyless_entry : (seen : Value) → sees_in trees (home_of d) (entry_id e) ≡ Some seen → key_at (fields_of d) seen ≡ None → IsAnswer (IsOwnEntry trees e) false
+    pub keyless_entry : (seen : Value) → sees_in trees (database_of_declaration d) (entry_id e) ≡ Some seen → key_at (fields_of d) seen ≡ None → IsAnswer (IsOwnEntry trees e) false
     keyless_entry seen is none = answered false (due_by (Some seen) is ∙ ap (λ o. is_key o (key_of e)) none)
 
     -- it has this one
-    pub key_entry : (seen : Value) (key : List ℕ) (b : Bool) → sees_in trees (home_of d) (entry_id e) ≡ Some seen → key_at (fields_of d) seen ≡ Some key → b ≡ bytes_eq key (key_of e) → IsAnswer (IsOwnEntry trees e) b
+    pub key_entry : (seen : Value) (key : List ℕ) (b : Bool) → sees_in trees (database_of_declaration d) (entry_id e) ≡ Some seen → key_at (fields_of d) seen ≡ Some key → b ≡ bytes_eq key (key_of e) → IsAnswer (IsOwnEntry trees e) b
     key_entry seen key b is at same = answered b (due_by (Some seen) is ∙ ap (λ o. is_key o (key_of e)) at ∙ sym same)
 
 -- what was read is what is seen
-pub seen_told : (trees : Trees) {o : Option Value} {h : HistoryContent} {n db : ℤ} {i id : List ℕ} → o ≡ queried_document i h → h ≡ winner_alone (history_in (trees revs_tree) n i) → n ≡ db → i ≡ id → sees_in trees db id ≡ o
+pub seen_told : (trees : Trees) {o : Option Value} {h : HistoryContent} {n db : ℤ} {i id : List ℕ} → o ≡ queried_document i h → h ≡ winner_alone (history_in_rows (trees revs_tree) n i) → n ≡ db → i ≡ id → sees_in trees db id ≡ o
 seen_told trees {n = n} {i = i} says is numbered named =
-    sym (says ∙ ap (queried_document i) is ∙ queried_alone (history_in (trees revs_tree) n i) i ∙ (λ j. queried_document (named j) (history_in (trees revs_tree) (numbered j) (named j))))
+    sym (says ∙ ap (queried_document i) is ∙ queried_alone (history_in_rows (trees revs_tree) n i) i ∙ (λ j. queried_document (named j) (history_in_rows (trees revs_tree) (numbered j) (named j))))
 
 -- what is found of the index of an entry is what the row of its declaration says
 pub index_says : (db : Database) → HasIndexRows db → (d e : Row) → declaration_at (db.trees decls_tree) (declaration_of e) ≡ Some d → (index : Row) → index ≡ shown_index d → {n : ℤ} {design name : List ℕ}
     → ((z : ℤ) → column index 0 ≡ Int z → n ≡ z) → ((b : List ℕ) → column index 1 ≡ Blob b → design ≡ b) → ((b : List ℕ) → column index 2 ≡ Blob b → name ≡ b)
-    → (n ≡ home_of d) × (find (is_declaration_of n design name) (db.trees decls_tree) ≡ Some d)
+    → (n ≡ database_of_declaration d) × (find (is_declaration_of n design name) (db.trees decls_tree) ≡ Some d)
 index_says db fit d e there index shown {n = n} {design = design} {name = name} number designed named =
     let decls = db.trees decls_tree in
     let row : IsDeclarationRow d = (find_found IsDeclarationRow (has_number (declaration_of e)) decls d fit.decls.each there).0 in
-    let at = (find_found (λ x. find (is_declaration_of (home_of x) (design_of x) (index_name_of x)) decls ≡ Some x) (has_number (declaration_of e)) decls d (index_found decls fit.decls) there).0 in
-    let a : n ≡ home_of d = number (home_of d) (ap (λ x. column x 0) shown ∙ ap (λ x. column x 2) row.is) in
+    let at = (find_found (λ x. find (is_declaration_of (database_of_declaration x) (design_of x) (index_name_of_row x)) decls ≡ Some x) (has_number (declaration_of e)) decls d (index_found decls fit.decls) there).0 in
+    let a : n ≡ database_of_declaration d = number (database_of_declaration d) (ap (λ x. column x 0) shown ∙ ap (λ x. column x 2) row.is) in
     let b : design ≡ design_of d = designed (design_of d) (ap (λ x. column x 1) shown ∙ ap (λ x. column x 3) row.is) in
-    let c : name ≡ index_name_of d = named (index_name_of d) (ap (λ x. column x 2) shown ∙ ap (λ x. column x 4) row.is) in
+    let c : name ≡ index_name_of_row d = named (index_name_of_row d) (ap (λ x. column x 2) shown ∙ ap (λ x. column x 4) row.is) in
     (a, (λ j. find (is_declaration_of (a j) (b j) (c j)) decls) ∙ at)
 
 -- it is found

@@ -1,5 +1,5 @@
 -- What SQLite keeps of the rows under this schema: the kinds of their cells, and that no two have the same unique key.
-use Rattle.tables.proofs.Common.{AllByRecursion, AreNumbered, Binary, Blob, Bool, Decides-int_eq, Int, IsAscending, List, Null, Real, Row, Text, Trees, Value, [], all_both, all_weaker, ap, arith, ascending_weaker, suc, bytes, bytes_eq-Decides, column, drop, db_of, dbs_table, dbs_tree, docs_table, docs_tree, false, id_of, ints, list_all, list_any, locals_table, locals_tree, meta_table, meta_tree, name_of, not, number_of, refl, revs_table, revs_tree, rowid, schema, sym, true, whole_in, ℕ, ℤ, ◌&&◌, ◌<ℤ◌, ◌||◌, ◌∙◌, ◌∷◌, ◌≡◌, ◌≢◌, inl, inr, length, Table}
+use Rattle.tables.proofs.Common.{AllByRecursion, AreNumbered, Binary, Blob, Bool, Decides-int_eq, Int, IsAscending, List, Null, Real, Row, Text, Trees, Value, [], all_both, all_weaker, ap, arith, ascending_weaker, suc, bytes, bytes_eq-Decides, column, drop, db_of, dbs_table, dbs_tree, docs_table, docs_tree, false, id_of, ints, list_all, list_any, locals_table, locals_tree, meta_table, meta_tree, name_of, not, number_of, refl, revs_table, revs_tree, rowid, schema, sym, true, whole_in_cell, ℕ, ℤ, ◌&&◌, ◌<ℤ◌, ◌||◌, ◌∙◌, ◌∷◌, ◌≡◌, ◌≢◌, inl, inr, length, Table}
 use Rattle.std.specs.Cmp.{first_so, second_so}
 use Rattle.sqlite_catalog.specs.Listing.{IsSound}
 use Rattle.sqlite_schema.specs.Rules.{agree, are_present, are_typed, clashes, differ, equal, guards, has_computed, is_of as is_of_kind, passes}
@@ -16,7 +16,7 @@ use Rattle.file_check.proofs.Assembled.{In, each_in}
 
 -- ---- cells
 
-int_cell : (v : Value) → is_of_kind kind.Integer v ≡ true → not (is_null v) ≡ true → v ≡ Int (whole_in v)
+int_cell : (v : Value) → is_of_kind kind.Integer v ≡ true → not (is_null v) ≡ true → v ≡ Int (whole_in_cell v)
 int_cell Null is some = absurd cc
 int_cell (Int n) is some = refl
 int_cell (Real x) is some = absurd cc
@@ -272,12 +272,12 @@ module _ (db : Trees) (sound : IsSound schema db) (kept : AreKept db) where
       (λ a b k l same. both_true _ _ (equal_ints (column a 1) (column b 1) (db_of a) (db_of b) (ap (λ x. column x 1) k) (ap (λ x. column x 1) l) same.0) (both_true _ _ (equal_blobs (column a 2) (column b 2) (id_of a) (id_of b) (ap (λ x. column x 2) k) (ap (λ x. column x 2) l) same.1) refl))
       (db docs_tree) docs (each_in (db docs_tree)) kept.docs.rising (all_weaker (HasNoClash docs_table) _ id_free (db docs_tree) (sound.obeys.rules Unique).1.1.0))
 
-  sequences_apart : IsAscending (λ a b. db_of a ≡ db_of b → whole_in (column a 3) ≢ whole_in (column b 3)) (db docs_tree)
+  sequences_apart : IsAscending (λ a b. db_of a ≡ db_of b → whole_in_cell (column a 3) ≢ whole_in_cell (column b 3)) (db docs_tree)
   unfolding first_key
   sequences_apart =
-      ascending_weaker (λ a b. ¬ ((db_of a ≡ db_of b) × (whole_in (column a 3) ≡ whole_in (column b 3)))) (λ a b. db_of a ≡ db_of b → whole_in (column a 3) ≢ whole_in (column b 3)) (λ a b none d i. none (d, i)) (db docs_tree)
-      (apart_in (1 ∷ 3 ∷ []) (db docs_tree) HasDocumentCells (λ a b. (db_of a ≡ db_of b) × (whole_in (column a 3) ≡ whole_in (column b 3))) (λ r k. ap rowid k)
-      (λ a b k l same. both_true _ _ (equal_ints (column a 1) (column b 1) (db_of a) (db_of b) (ap (λ x. column x 1) k) (ap (λ x. column x 1) l) same.0) (both_true _ _ (equal_ints (column a 3) (column b 3) (whole_in (column a 3)) (whole_in (column b 3)) (ap (λ x. column x 3) k) (ap (λ x. column x 3) l) same.1) refl))
+      ascending_weaker (λ a b. ¬ ((db_of a ≡ db_of b) × (whole_in_cell (column a 3) ≡ whole_in_cell (column b 3)))) (λ a b. db_of a ≡ db_of b → whole_in_cell (column a 3) ≢ whole_in_cell (column b 3)) (λ a b none d i. none (d, i)) (db docs_tree)
+      (apart_in (1 ∷ 3 ∷ []) (db docs_tree) HasDocumentCells (λ a b. (db_of a ≡ db_of b) × (whole_in_cell (column a 3) ≡ whole_in_cell (column b 3))) (λ r k. ap rowid k)
+      (λ a b k l same. both_true _ _ (equal_ints (column a 1) (column b 1) (db_of a) (db_of b) (ap (λ x. column x 1) k) (ap (λ x. column x 1) l) same.0) (both_true _ _ (equal_ints (column a 3) (column b 3) (whole_in_cell (column a 3)) (whole_in_cell (column b 3)) (ap (λ x. column x 3) k) (ap (λ x. column x 3) l) same.1) refl))
       (db docs_tree) docs (each_in (db docs_tree)) kept.docs.rising (all_weaker (HasNoClash docs_table) _ sequence_free (db docs_tree) (sound.obeys.rules Unique).1.1.0))
 
   revisions_apart : IsAscending (λ a b. db_of a ≡ db_of b → id_of a ≡ id_of b → stored_revision a ≢ stored_revision b) (db revs_tree)
@@ -288,7 +288,7 @@ module _ (db : Trees) (sound : IsSound schema db) (kept : AreKept db) where
       (λ a b k l same.
       both_true _ _ (equal_ints (column a 1) (column b 1) (db_of a) (db_of b) (ap (λ x. column x 1) k.is) (ap (λ x. column x 1) l.is) same.0)
       (both_true _ _ (equal_blobs (column a 2) (column b 2) (id_of a) (id_of b) (ap (λ x. column x 2) k.is) (ap (λ x. column x 2) l.is) same.1.0)
-      (both_true _ _ (equal_ints (column a 3) (column b 3) (whole_in (column a 3)) (whole_in (column b 3)) (ap (λ x. column x 3) k.is) (ap (λ x. column x 3) l.is) (ap (λ (p : ℤ × List ℕ). p.0) same.1.1))
+      (both_true _ _ (equal_ints (column a 3) (column b 3) (whole_in_cell (column a 3)) (whole_in_cell (column b 3)) (ap (λ x. column x 3) k.is) (ap (λ x. column x 3) l.is) (ap (λ (p : ℤ × List ℕ). p.0) same.1.1))
       (both_true _ _ (equal_texts (column a 4) (column b 4) (bytes (column a 4)) (bytes (column b 4)) (ap (λ x. column x 4) k.is) (ap (λ x. column x 4) l.is) (ap (λ (p : ℤ × List ℕ). p.1) same.1.1)) refl))))
       (db revs_tree) revs (each_in (db revs_tree)) kept.revs.rising (all_weaker (HasNoClash revs_table) _ revision_free (db revs_tree) (sound.obeys.rules Unique).1.1.1.0))
 

@@ -1,5 +1,5 @@
 -- What the statements of a check mean.
-use Rattle.tables.proofs.Common.{AllByRecursion, AreKeyed, Blob, IfOk, Int, IsKeyed, IsPermutation, List, None, Null, Option, Result, Row, Select, Shown, Some, State, Term, Text, [], all-filter, all_of, all_weaker, ap, bytes, codes, col, column, db_of, dbs_tree, docs_tree, eval_all, everything, filter, filter_all, has_number, holds, id_of, is_of, list_all, listed_document, lit, locals_tree, map, meta_tree, overlay, refl, revs_tree, rowid, schema, shown_revision, subst, sym, true, understood, whole_in, ℕ, ℤ, ◌∙◌, ◌∷◌, ◌≡◌}
+use Rattle.tables.proofs.Common.{AllByRecursion, AreKeyed, Blob, IfOk, Int, IsKeyed, IsPermutation, List, None, Null, Option, Result, Row, Select, Shown, Some, State, Term, Text, [], all-filter, all_of, all_weaker, ap, bytes, codes, col, column, db_of, dbs_tree, docs_tree, eval_all, everything, filter, filter_all, has_number, holds, id_of, is_row_of_document, list_all, listed_document, lit, locals_tree, map, meta_tree, overlay, refl, revs_tree, rowid, schema, shown_revision, subst, sym, true, understood, whole_in_cell, ℕ, ℤ, ◌∙◌, ◌∷◌, ◌≡◌}
 use Rattle.std.specs.Prelude.{take}
 use Rattle.sqlite_sql.specs.declared.ops.CompareOp.TheVariants.{Eq}
 use Rattle.sqlite_typed.proofs.TestLemmas.{last_term, then_term}
@@ -263,7 +263,7 @@ tests_stored db id n hash rows all =
     (λ r k.
     then_term (int_by Eq (column r 1) (db_of r) db (ap (λ x. column x 1) k.is))
     (then_term (same_blob (column r 2) (id_of r) id (ap (λ x. column x 2) k.is))
-    (then_term (int_by Eq (column r 3) (whole_in (column r 3)) n (ap (λ x. column x 3) k.is))
+    (then_term (int_by Eq (column r 3) (whole_in_cell (column r 3)) n (ap (λ x. column x 3) k.is))
     (last_term (same_text (column r 4) (bytes (column r 4)) hash (ap (λ x. column x 4) k.is)))))) rows all
 
 tests_numbered : (db : ℤ) (id : List ℕ) (n : ℤ) (rows : List Row) → AllByRecursion HasRevisionCells rows
@@ -273,7 +273,7 @@ tests_numbered db id n rows all =
     (λ r k.
     then_term (int_by Eq (column r 1) (db_of r) db (ap (λ x. column x 1) k.is))
     (then_term (same_blob (column r 2) (id_of r) id (ap (λ x. column x 2) k.is))
-    (last_term (int_by Eq (column r 3) (whole_in (column r 3)) n (ap (λ x. column x 3) k.is))))) rows all
+    (last_term (int_by Eq (column r 3) (whole_in_cell (column r 3)) n (ap (λ x. column x 3) k.is))))) rows all
 
 module _ {X E : Type 0} (old new : State) (fit : IsShaped old.now) where
   pub finds_length : (n : ℤ) (r : Result X E) (items : X → List Row) → IfOk r (λ x. Shown length_text (Int n ∷ []) old new (items x)) → IfOk r (λ x. items x ≡ map shown_length (filter (has_number n) (old.now.trees dbs_tree)))
@@ -281,13 +281,13 @@ module _ {X E : Type 0} (old new : State) (fit : IsShaped old.now) where
       finds_one old new fit.schema_is length_is (Int n ∷ []) (has_number n) shown_length refl (λ x. refl) (tests_number n [] _ fit.shaped.kept.dbs) (one_numbered (old.now.trees dbs_tree) fit.shaped.kept.dbs.rising n)
 
   pub finds_document_row : (db : ℤ) (id : List ℕ) (r : Result X E) (items : X → List Row) → IfOk r (λ x. Shown document_text (Int db ∷ Blob id ∷ []) old new (items x))
-      → IfOk r (λ x. items x ≡ map listed_document (filter (is_of db id) (old.now.trees docs_tree)))
+      → IfOk r (λ x. items x ≡ map listed_document (filter (is_row_of_document db id) (old.now.trees docs_tree)))
   finds_document_row db id =
-      finds_one old new fit.schema_is document_is (Int db ∷ Blob id ∷ []) (is_of db id) listed_document refl (λ r. refl) (tests_id db id [] _ (documents_keyed old fit)) (one_of (old.now.trees docs_tree) fit.shaped.ids_apart db id)
+      finds_one old new fit.schema_is document_is (Int db ∷ Blob id ∷ []) (is_row_of_document db id) listed_document refl (λ r. refl) (tests_id db id [] _ (documents_keyed old fit)) (one_of (old.now.trees docs_tree) fit.shaped.ids_apart db id)
 
   pub finds_history : (db : ℤ) (id : List ℕ) (r : Result X E) (items : X → List Row) → IfOk r (λ x. Shown revisions_text (Int db ∷ Blob id ∷ []) old new (items x))
-      → IfOk r (λ x. IsPermutation (map shown_revision (filter (is_of db id) (old.now.trees revs_tree))) (items x))
-  finds_history db id = finds_where old new fit.schema_is revisions_are (Int db ∷ Blob id ∷ []) (is_of db id) shown_revision refl (λ r. refl) (tests_id db id [] _ (revisions_keyed old fit))
+      → IfOk r (λ x. IsPermutation (map shown_revision (filter (is_row_of_document db id) (old.now.trees revs_tree))) (items x))
+  finds_history db id = finds_where old new fit.schema_is revisions_are (Int db ∷ Blob id ∷ []) (is_row_of_document db id) shown_revision refl (λ r. refl) (tests_id db id [] _ (revisions_keyed old fit))
 
   pub finds_stored : (db : ℤ) (id : List ℕ) (n : ℤ) (hash : List ℕ) (r : Result X E) (items : X → List Row) → IfOk r (λ x. Shown stored_text (Int db ∷ Blob id ∷ Int n ∷ Text hash ∷ []) old new (items x))
       → IfOk r (λ x. IsPermutation (map shown_stored (filter (is_stored db id n hash) (old.now.trees revs_tree))) (items x))

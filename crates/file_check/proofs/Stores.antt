@@ -1,5 +1,5 @@
 -- A file whose rows are all sound is a store.
-use Rattle.tables.proofs.Common.{Database, Err, Ghosts, HasCleanDisk, Held, IfOk, IsLaid, IsStore, IsTrue, MatchOption, None, Ok, OnOk, Option, Result, Some, inl, inr, schema, state, subst, Trees, ◌≡◌}
+use Rattle.tables.proofs.Common.{Database, Err, Ghosts, HasCleanDisk, Held, IfOk, IsWellFormed, IsStore, IsTrue, MatchOption, None, Ok, OnOk, Option, Result, Some, inl, inr, schema, state, subst, Trees, ◌≡◌}
 use Rattle.std.specs.Prelude.{IfSome}
 use Rattle.sqlite.specs.State.{IsLive}
 use Rattle.sqlite_catalog.specs.Listing.{IsSound}
@@ -10,22 +10,22 @@ use Rattle.file_check.proofs.Laid.{kept_where_laid, sound_where_laid}
 use Rattle.file_check.proofs.Shaped.{are_shaped}
 use Rattle.file_check.specs.Checks.{IsSame}
 use Rattle.file_check.specs.Inspecting.{Inspects}
-use Rattle.file_check.specs.Tables.{AreKept, AreShaped, AreSoundRows, AreTablesChecked, HasSoundLocals, IsShaped, IsSoundRow, IsTableFinding, table_of, tree_of}
+use Rattle.file_check.specs.Tables.{AreKept, AreShaped, AreSoundRows, AreTablesChecked, HasSoundLocals, IsShaped, IsSoundRow, IsTableFinding, table_of_finding, tree_of}
 use Rattle.file_check.specs.declared.finding.CheckFault.{CheckFault}
 use Rattle.file_check.specs.declared.finding.Finding.{Finding}
 use Rattle.file_check.specs.declared.layout.checked.Checked.{Checked}
 use Rattle.file_check.specs.declared.layout.checked.Checked.TheVariants.{Databases, Documents, Locals, Revisions}
 
 -- tables whose rows are all sound are laid out
-pub laid_where_sound : (trees : Trees) → AreShaped trees → HasSoundLocals trees → IsLaid trees
+pub laid_where_sound : (trees : Trees) → AreShaped trees → HasSoundLocals trees → IsWellFormed trees
 laid_where_sound trees shaped all =
     let sound : AreSound trees = record { dbs = all.before.before.before.dbs; docs = all.before.docs; revs = all.before.before.revs; locals = all.locals } in
     is_laid trees shaped sound all.before.before.before.version
 
 -- where a row is found that is not sound, they are not
-pub unlaid_where_found : (trees : Trees) (f : Finding) → IsTableFinding trees f → ¬ IsLaid trees
+pub unlaid_where_found : (trees : Trees) (f : Finding) → IsTableFinding trees f → ¬ IsWellFormed trees
 unlaid_where_found trees f (inl version) h = version.fails h.version
-unlaid_where_found trees f (inr (of, row)) h = never_fails (table_of of) (trees (tree_of of)) (IsSoundRow of trees) f (all of) row
+unlaid_where_found trees f (inr (of, row)) h = never_fails (table_of_finding of) (trees (tree_of of)) (IsSoundRow of trees) f (all of) row
   where
     sound : HasSoundLocals trees
     sound = sound_where_laid trees h

@@ -2,7 +2,7 @@
 use Rattle.tables.proofs.Common.{Database, Err, Ghosts, Held, List, None, Ok, Option, Result, Row, Some, Trees, ap, find, number_of, option_map, slice_get, subst, sym, ℤ, ◌∙◌, ◌≡◌}
 use Rattle.tables.proofs.RowMaps.{find_found}
 use Rattle.file_check.specs.Inspecting.{Goes, Inspects}
-use Rattle.file_check.specs.Tables.{IsShaped, IsSoundRow, table_of, tree_of}
+use Rattle.file_check.specs.Tables.{IsShaped, IsSoundRow, table_of_finding, tree_of}
 use Rattle.file_check.specs.inner.Queries.{AreRowsChecked, HasCells, IsBefore, Judges}
 use Rattle.file_check.specs.inner.Walks.{AreWalked, IsRowStep, IsStep, is_behind, next_rows}
 use Rattle.file_check.specs.declared.finding.CheckFault.{CheckFault}
@@ -18,11 +18,11 @@ use Rattle.file_check.proofs.WalkedRows.{first_next, row_step, shown_nothing, sh
 
 -- what a step over a row of the table tells
 abbrev pub Steps : Checked → Row → Trees → Step → Type 0
-Steps of row trees step = HasCells of row → IsBefore of trees → IsRowStep (table_of of) (IsSoundRow of trees) row step
+Steps of row trees step = HasCells of row → IsBefore of trees → IsRowStep (table_of_finding of) (IsSoundRow of trees) row step
 
 -- what a look at the next row tells
 abbrev pub Tells : Checked → Option ℤ → Trees → Step → Type 0
-Tells of last trees step = IsBefore of trees → IsStep (table_of of) (trees (tree_of of)) (IsSoundRow of trees) last step
+Tells of last trees step = IsBefore of trees → IsStep (table_of_finding of) (trees (tree_of of)) (IsSoundRow of trees) last step
 
 abbrev pub TellsAll : Checked → Trees → Option Finding → Type 0
 TellsAll of trees found = IsBefore of trees → AreRowsChecked of trees found
@@ -36,7 +36,7 @@ AreSoundUpTo of last trees = IsBefore of trees → AreWalked (IsSoundRow of tree
 pub step_next : (of : Checked) (row : Row) (trees : Trees) (found : Option Wrong) (n : ℤ) → found ≡ None → n ≡ number_of row → (HasCells of row → IsBefore of trees → Judges (IsSoundRow of trees row) found) → Steps of row trees (Next n)
 step_next of row trees found n none number h cells before = (number, subst (Judges (IsSoundRow of trees row)) none (h cells before))
 
-pub step_found : (of : Checked) (row : Row) (trees : Trees) (found : Option Wrong) (wrong : Wrong) (f : Finding) → found ≡ Some wrong → f.table ≡ table_of of → f.key ≡ number_of row
+pub step_found : (of : Checked) (row : Row) (trees : Trees) (found : Option Wrong) (wrong : Wrong) (f : Finding) → found ≡ Some wrong → f.table ≡ table_of_finding of → f.key ≡ number_of row
     → (HasCells of row → IsBefore of trees → Judges (IsSoundRow of trees row) found) → Steps of row trees (Found f)
 step_found of row trees found wrong f some table number h cells before = (table, number, subst (Judges (IsSoundRow of trees row)) some (h cells before))
 
@@ -49,7 +49,7 @@ module _ (of : Checked) (last : Option ℤ) (d : Database) (fit : IsShaped d) (i
       let rows = d.trees (tree_of of) in
       let found = shown_there (λ r. r) (find (is_behind last) rows) row (sym first_is ∙ at) in
       let there : find (is_behind last) rows ≡ Some row = found.0 ∙ ap Some (sym found.1) in
-      row_step (IsSoundRow of d.trees) (table_of of) last rows row step (numbered_rows d.trees fit.shaped of).rising there (h (find_found (HasCells of) (is_behind last) rows row (cells_of d.trees fit.shaped of) there).0 before)
+      row_step (IsSoundRow of d.trees) (table_of_finding of) last rows row step (numbered_rows d.trees fit.shaped of).rising there (h (find_found (HasCells of) (is_behind last) rows row (cells_of d.trees fit.shaped of) there).0 before)
 
   pub next_none : slice_get items 0 ≡ None → Tells of last d.trees Done
   next_none at before = shown_nothing (λ r. r) (find (is_behind last) (d.trees (tree_of of))) (sym first_is ∙ at)

@@ -5,7 +5,7 @@ use Rattle.sqlite_catalog.specs.Listing.{IsSound}
 use Rattle.std.proofs.Common.{IfOk, Some, refl}
 use Rattle.sqlite_keyed.proofs.ListLemmas.{all_weaker}
 use Rattle.index.specs.Layout.{IsDeclarationRow}
-use Rattle.index.specs.Rows.{declaration_row, design_of, home_of, index_name_of}
+use Rattle.index.specs.Rows.{declaration_row, design_of, database_of_declaration, index_name_of_row}
 use Rattle.tables.specs.Rows.{number_of}
 use Rattle.tables.specs.Schema.{decls_tree}
 use Rattle.transactions.specs.Indexing.{IsIndexedStore}
@@ -88,7 +88,7 @@ checkable d k = record {
   cells = record {
     schema_is = k.store.schema_is;
     decls = record {
-      each = all_weaker IsDeclarationRow HasDeclarationCells (λ r h. h.is ∙ ap (declaration_row (number_of r) (home_of r) (design_of r) (index_name_of r)) (sym (own_text r h))) (d.trees decls_tree) k.indexed.decls.each;
+      each = all_weaker IsDeclarationRow HasDeclarationCells (λ r h. h.is ∙ ap (declaration_row (number_of r) (database_of_declaration r) (design_of r) (index_name_of_row r)) (sym (own_text r h))) (d.trees decls_tree) k.indexed.decls.each;
       rising = k.indexed.decls.rising;
       apart = k.indexed.decls.apart;
     };

@@ -1,5 +1,5 @@
 -- Tables that are checked one after the other.
-use Rattle.tables.proofs.Common.{AllByRecursion, AreNumbered, Database, Int, IsPermutation, List, MatchOption, None, Option, Row, Some, Trees, [], all-slice_get, ap, drop, find, has_number, inl, inr, length, meta_tree, number_of, one_permutation, refl, subst, sym, version_row, whole_in, ℕ, ◌+◌, ◌∙◌, ◌∷◌, ◌≡◌, ◌≤◌}
+use Rattle.tables.proofs.Common.{AllByRecursion, AreNumbered, Database, Int, IsPermutation, List, MatchOption, None, Option, Row, Some, Trees, [], all-slice_get, ap, drop, find, has_number, inl, inr, length, meta_tree, number_of, one_permutation, refl, subst, sym, version_row, whole_in_cell, ℕ, ◌+◌, ◌∙◌, ◌∷◌, ◌≡◌, ◌≤◌}
 use Rattle.std.proofs.lemmas.List.Sorted.{IsPermutation-sym}
 use Rattle.file_check.specs.Tables.{AreShaped, AreSoundRows, AreTablesChecked, HasSoundDatabases, HasSoundDocuments, HasSoundLocals, HasSoundRevisions, HasVersionCells, IsShaped, tree_of}
 use Rattle.file_check.specs.inner.Queries.{AreRowsChecked, HasCells, IsBefore, IsThisVersion}
@@ -33,7 +33,7 @@ version_found d fit items shown is same None k =
     let there : IsPermutation (d.trees meta_tree) (k.row ∷ []) = subst (IsPermutation (d.trees meta_tree)) (sym is ∙ k.is) same in
     let one : d.trees meta_tree ≡ k.row ∷ [] = one_permutation k.row (d.trees meta_tree) (IsPermutation-sym (d.trees meta_tree) (k.row ∷ []) there) in
     let cells : HasVersionCells k.row = (subst (AllByRecursion HasVersionCells) one fit.shaped.meta).0 in
-    let row : k.row ≡ version_row 2 = cells ∙ (λ i. Int (whole_in (k.number i)) ∷ Int (whole_in (k.version i)) ∷ []) in
+    let row : k.row ≡ version_row 2 = cells ∙ (λ i. Int (whole_in_cell (k.number i)) ∷ Int (whole_in_cell (k.version i)) ∷ []) in
     one ∙ (λ i. row i ∷ [])
 
 -- ---- one table after the other

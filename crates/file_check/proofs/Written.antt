@@ -10,9 +10,9 @@ use Rattle.std.specs.FinMap.Entries.{below_all}
 use Rattle.std.specs.Ordering.{eq_by_cmp, is_lt, is_eq, nat_cmp, ordering_reverse, ordering_then}
 use Rattle.std.specs.declared.cmp.Ordering.{Ordering}
 use Rattle.std.specs.declared.cmp.Ordering.TheVariants.{Less, Equal, Greater}
-use Rattle.tree.specs.History.{HistoryContent, IsRooted, agrees, content_of, has_child, held_of, is_head_known, is_known, is_leaf, is_parent_in, keeps_parents, line, names, onward, parent_of, path_entries, placement, same_parent, with_write, write_entries}
+use Rattle.tree.specs.History.{HistoryContent, IsRooted, agrees, content_of, has_child, held_of, is_head_known, is_known, is_leaf, is_parent_in, keeps_parents, path_from, names, onward, parent_of, path_entries, placement, same_parent, with_write, write_entries}
 use Rattle.tree.specs.Revision.{Revision, revision_cmp}
-use Rattle.tree.specs.Write.{Write, StandsIn, counts_down, head, held_by, is_whole, IsLawful as IsLawfulList}
+use Rattle.tree.specs.Write.{Write, StandsIn, counts_down, head, held_of_write, is_whole_path, AreLawfulWrites as IsLawfulList}
 use Rattle.tree.specs.declared.entry.Entry.{Entry}
 use Rattle.tree.specs.declared.entry.Held.{Held}
 use Rattle.tree.specs.declared.placement.Placed.TheVariants.{Added}
@@ -97,11 +97,11 @@ module _ (k : HistoryContent) (root : IsRooted k) (body_of : (s : Revision) (d :
   abbrev IsSaid : Revision → Option Held → Revision → Entry → Type 0
   IsSaid r d s e = ((s ≡ r) × (e ≡ record { parent = parent_of k r; held = d })) ⊎ IsBefore r s e
 
-  first_of_line : (n : ℕ) (p : Revision) → is_known k p ≡ true → 1 ≤ n → head (line k n p) ≡ Some p
+  first_of_line : (n : ℕ) (p : Revision) → is_known k p ≡ true → 1 ≤ n → head (path_from k n p) ≡ Some p
   first_of_line zero p known some = absurd (omega (arith, some))
   first_of_line (suc n) p known some = ap head (line_on k n p known)
 
-  line_says : (n : ℕ) (r : Revision) (d : Option Held) → r.number ≡ n → is_known k r ≡ true → (s : Revision) (e : Entry) → find revision_cmp s (path_entries d (line k n r)) ≡ Some e → IsSaid r d s e
+  line_says : (n : ℕ) (r : Revision) (d : Option Held) → r.number ≡ n → is_known k r ≡ true → (s : Revision) (e : Entry) → find revision_cmp s (path_entries d (path_from k n r)) ≡ Some e → IsSaid r d s e
   line_says zero r d is known s e found = absurd (omega (arith, is, positive r known))
   line_says (suc n) r d is known s e found =
       up (λ p near there f. line_says n p None near there s e f) (parent_of k r) refl (ap (λ (path : List Revision). find revision_cmp s (path_entries d path)) (sym (line_on k n r known)) ∙ found)
@@ -123,23 +123,23 @@ module _ (k : HistoryContent) (root : IsRooted k) (body_of : (s : Revision) (d :
           })
       lower p is_up (inr before) = inr (record { low = omega (arith, before.low, root.descends r p is_up); known = before.known; entry = before.entry })
 
-      up : ((p : Revision) → p.number ≡ n → is_known k p ≡ true → find revision_cmp s (path_entries None (line k n p)) ≡ Some e → IsSaid p None s e)
-          → (o : Option Revision) → parent_of k r ≡ o → find revision_cmp s (path_entries d (r ∷ onward (λ p. line k n p) o)) ≡ Some e → IsSaid r d s e
+      up : ((p : Revision) → p.number ≡ n → is_known k p ≡ true → find revision_cmp s (path_entries None (path_from k n p)) ≡ Some e → IsSaid p None s e)
+          → (o : Option Revision) → parent_of k r ≡ o → find revision_cmp s (path_entries d (r ∷ onward (λ p. path_from k n p) o)) ≡ Some e → IsSaid r d s e
       up rest None is_up f = here None [] is_up refl (λ g. absurd cc) (eq_by_cmp revision_cmp s r) refl f
       up rest (Some p) is_up f =
           let near : p.number ≡ n = omega (arith, is, root.descends r p is_up) in
           let there = root.parents_known r p is_up in
-          here (Some p) (line k n p) is_up (first_of_line n p there (omega (arith, near, positive p there))) (λ g. lower p is_up (rest p near there g)) (eq_by_cmp revision_cmp s r) refl f
+          here (Some p) (path_from k n p) is_up (first_of_line n p there (omega (arith, near, positive p there))) (λ g. lower p is_up (rest p near there g)) (eq_by_cmp revision_cmp s r) refl f
 
   -- the path counts down to 1
-  line_counts : (n : ℕ) (r : Revision) → r.number ≡ n → is_known k r ≡ true → (length (line k n r) ≡ n) × (counts_down (line k n r) ≡ true)
+  line_counts : (n : ℕ) (r : Revision) → r.number ≡ n → is_known k r ≡ true → (length (path_from k n r) ≡ n) × (counts_down (path_from k n r) ≡ true)
   line_counts zero r is known = absurd (omega (arith, is, positive r known))
   line_counts (suc n) r is known =
       subst (λ (path : List Revision). (length path ≡ suc n) × (counts_down path ≡ true)) (sym (line_on k n r known))
       (by (λ p near there. line_counts n p near there) (parent_of k r) refl)
     where
-      by : ((p : Revision) → p.number ≡ n → is_known k p ≡ true → (length (line k n p) ≡ n) × (counts_down (line k n p) ≡ true))
-          → (o : Option Revision) → parent_of k r ≡ o → (length (r ∷ onward (λ p. line k n p) o) ≡ suc n) × (counts_down (r ∷ onward (λ p. line k n p) o) ≡ true)
+      by : ((p : Revision) → p.number ≡ n → is_known k p ≡ true → (length (path_from k n p) ≡ n) × (counts_down (path_from k n p) ≡ true))
+          → (o : Option Revision) → parent_of k r ≡ o → (length (r ∷ onward (λ p. path_from k n p) o) ≡ suc n) × (counts_down (r ∷ onward (λ p. path_from k n p) o) ≡ true)
       by rest None up =
           let one = root.begins r known up in
           (omega (arith, is, one), ap (λ (b : Bool). b && true) (eq-eqb r.number 1 one))
@@ -165,17 +165,17 @@ module _ (k : HistoryContent) (root : IsRooted k) (body_of : (s : Revision) (d :
           let mine : e.parent ≡ o = ap parent_in (sym is ∙ keeps r (ap is_some is)) ∙ up in
           ap (λ (p : Option Revision). same_parent p o) mine ∙ same_itself o
 
-  line_kept : (h : HistoryContent) → Keeps h → (n : ℕ) (r : Revision) → r.number ≡ n → is_known k r ≡ true → keeps_parents h (line k n r) ≡ true
+  line_kept : (h : HistoryContent) → Keeps h → (n : ℕ) (r : Revision) → r.number ≡ n → is_known k r ≡ true → keeps_parents h (path_from k n r) ≡ true
   line_kept h keeps zero r is known = refl
   line_kept h keeps (suc n) r is known = ap (keeps_parents h) (line_on k n r known) ∙ by (λ p near there. line_kept h keeps n p near there) (parent_of k r) refl
     where
-      by : ((p : Revision) → p.number ≡ n → is_known k p ≡ true → keeps_parents h (line k n p) ≡ true) → (o : Option Revision) → parent_of k r ≡ o → keeps_parents h (r ∷ onward (λ p. line k n p) o) ≡ true
+      by : ((p : Revision) → p.number ≡ n → is_known k p ≡ true → keeps_parents h (path_from k n p) ≡ true) → (o : Option Revision) → parent_of k r ≡ o → keeps_parents h (r ∷ onward (λ p. path_from k n p) o) ≡ true
       by rest None up = rw (agrees_with h keeps r None up) refl
       by rest (Some p) up =
           let near : p.number ≡ n = omega (arith, is, root.descends r p up) in
           let there = root.parents_known r p up in
           let first = first_of_line n p there (omega (arith, near, positive p there)) in
-          rw (rest p near there, agrees_with h keeps r (head (line k n p)) (up ∙ sym first)) refl
+          rw (rest p near there, agrees_with h keeps r (head (path_from k n p)) (up ∙ sym first)) refl
 
   -- ---- nodes in order
 
@@ -253,7 +253,7 @@ module _ (k : HistoryContent) (root : IsRooted k) (body_of : (s : Revision) (d :
 
   module _ (h : HistoryContent) (e : Node) (es : List Node) (d : Held) (some : e.1.held ≡ Some d) (at : get k e.0 ≡ Some e.1) (sorted : AreSorted (e ∷ es)) (g : Grown h (e ∷ es)) where
     abbrev w : Write
-    w = record { path = line k e.0.number e.0; deleted = d.deleted; body = d.body }
+    w = record { path = path_from k e.0.number e.0; deleted = d.deleted; body = d.body }
 
     known_there : is_known k e.0 ≡ true
     known_there = ap is_some at
@@ -267,18 +267,18 @@ module _ (k : HistoryContent) (root : IsRooted k) (body_of : (s : Revision) (d :
             absurd (let z : false ≡ true = sym (not_tied e.0 e.0 under) ∙ tied e.0 e.0 refl in cc)
         by false known = refl
 
-    stands : (n : ℕ) → e.0.number ≡ n → StandsIn (line k n e.0) e.0
+    stands : (n : ℕ) → e.0.number ≡ n → StandsIn (path_from k n e.0) e.0
     stands zero is = absurd (omega (arith, is, positive e.0 known_there))
     stands (suc n) is = subst (λ (path : List Revision). StandsIn path e.0) (sym (line_on k n e.0 known_there)) (inl refl)
 
-    first_unknown : (n : ℕ) → e.0.number ≡ n → is_head_known h (line k n e.0) ≡ false
+    first_unknown : (n : ℕ) → e.0.number ≡ n → is_head_known h (path_from k n e.0) ≡ false
     first_unknown zero is = absurd (omega (arith, is, positive e.0 known_there))
     first_unknown (suc n) is = ap (is_head_known h) (line_on k n e.0 known_there) ∙ not_yet
 
-    whole_line : (n : ℕ) → e.0.number ≡ n → is_whole (line k n e.0) ≡ true
+    whole_line : (n : ℕ) → e.0.number ≡ n → is_whole_path (path_from k n e.0) ≡ true
     whole_line zero is = absurd (omega (arith, is, positive e.0 known_there))
     whole_line (suc n) is =
-        ap is_whole (line_on k n e.0 known_there) ∙ ap counts_down (sym (line_on k n e.0 known_there)) ∙ (line_counts (suc n) e.0 is known_there).1
+        ap is_whole_path (line_on k n e.0 known_there) ∙ ap counts_down (sym (line_on k n e.0 known_there)) ∙ (line_counts (suc n) e.0 is known_there).1
 
     placed : placement h w.path ≡ Ok Added
     placed = rw (whole_line e.0.number refl, line_kept h g.keeps e.0.number e.0 refl known_there, first_unknown e.0.number refl) refl
@@ -345,7 +345,7 @@ module _ (k : HistoryContent) (root : IsRooted k) (body_of : (s : Revision) (d :
 
         here : (s : Revision) → (b : Bool) → eq_by_cmp revision_cmp s e.0 ≡ b → cond b (Some e.1) (find revision_cmp s es) ≡ get k s → (is_known (with_write h w) s ≡ true) ⊎ (find revision_cmp s es ≡ get k s)
         here s true tie f =
-            let there = ap is_some (write_shows h w e.0) ∙ right_some (get h e.0) (find revision_cmp e.0 (write_entries w)) (stands_found w.path (Some (held_by w)) e.0 (stands e.0.number refl)) in
+            let there = ap is_some (write_shows h w e.0) ∙ right_some (get h e.0) (find revision_cmp e.0 (write_entries w)) (stands_found w.path (Some (held_of_write w)) e.0 (stands e.0.number refl)) in
             inl (ap (is_known (with_write h w)) (same s e.0 tie) ∙ there)
         here s false tie f = inr f
 
@@ -362,7 +362,7 @@ module _ (k : HistoryContent) (root : IsRooted k) (body_of : (s : Revision) (d :
       by : ((made : HistoryContent) → Grown made es → (last : HistoryContent) × Grown last []) → (o : Option Held) → e.1.held ≡ o → (last : HistoryContent) × Grown last []
       by rest None is = rest h (passed h e es is (part_first e es part) g)
       by rest (Some d) is =
-          let path : Write = record { path = line k e.0.number e.0; deleted = d.deleted; body = d.body } in
+          let path : Write = record { path = path_from k e.0.number e.0; deleted = d.deleted; body = d.body } in
           rest (with_write h path) (written h e es d is (part_first e es part) sorted g)
 
   none_known : (s : Revision) → is_known empty s ≡ true → ⊥

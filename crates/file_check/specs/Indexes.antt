@@ -13,7 +13,7 @@ use Rattle.tables.specs.Schema.{schema, decls_tree, docs_tree, entries_tree}
 use Rattle.index.specs.Indexed.{IsIndexed, is_due}
 use Rattle.index.specs.Layout.{AreEntryRows, HasIndexRows, IsDeclarationRow}
 use Rattle.index.specs.Meaning.{declares_in, key_if_seen, sees_in}
-use Rattle.index.specs.Rows.{declaration_of, declaration_row, design_of, entry_id, fields_of, fields_text, has_entry, home_of, index_name_of, is_declaration_of, key_of}
+use Rattle.index.specs.Rows.{declaration_of, declaration_row, design_of, entry_id, fields_of, fields_text, has_entry, database_of_declaration, index_name_of_row, is_declaration_of, key_of}
 use Rattle.file_check.specs.declared.finding.Finding.{Finding}
 use Rattle.file_check.specs.declared.finding.Table.{Table}
 use Rattle.file_check.specs.declared.finding.Table.TheVariants as table
@@ -22,13 +22,13 @@ use Rattle.file_check.specs.declared.finding.Table.TheVariants as table
 
 -- the cells of the row of a declaration are of the kinds of its columns
 abbrev pub HasDeclarationCells : Row → Type 0
-HasDeclarationCells r = r ≡ declaration_row (number_of r) (home_of r) (design_of r) (index_name_of r) (bytes (column r 5))
+HasDeclarationCells r = r ≡ declaration_row (number_of r) (database_of_declaration r) (design_of r) (index_name_of_row r) (bytes (column r 5))
 
 -- each row has such cells, the numbers rise, and no two rows are of one index
 pub record AreDeclarationCells (rows : List Row) : Type 0 where
   pub each : AllByRecursion HasDeclarationCells rows
   pub rising : IsAscending (λ a b. number_of a <ℤ number_of b) rows
-  pub apart : IsAscending (λ a b. home_of a ≡ home_of b → design_of a ≡ design_of b → index_name_of a ≢ index_name_of b) rows
+  pub apart : IsAscending (λ a b. database_of_declaration a ≡ database_of_declaration b → design_of a ≡ design_of b → index_name_of_row a ≢ index_name_of_row b) rows
 
 -- the tables are ours, and the rows of these two have cells of the kinds of their columns, and their unique keys
 pub record HasIndexCells (db : Database) : Type 0 where
@@ -60,7 +60,7 @@ pub record Spells (fields : Option (List (List ℕ))) (text : Option (List ℕ))
 -- the row of an index is laid out, and says the fields with which the winner of its design document declares it
 pub record IsOwnDeclaration (trees : Trees) (r : Row) : Type 0 where
   pub row : IsDeclarationRow r
-  pub declared : declares_in trees (home_of r) (design_of r) (index_name_of r) ≡ Some (fields_of r)
+  pub declared : declares_in trees (database_of_declaration r) (design_of r) (index_name_of_row r) ≡ Some (fields_of r)
 
 -- each index of these fields that the design document declares has a row
 abbrev pub HaveRows : ℤ → List ℕ → (List ℕ → Option (List (List ℕ))) → Trees → Type 0
@@ -72,7 +72,7 @@ HasItsKey id seen trees r = (k : List ℕ) → key_if_seen (fields_of r) seen �
 
 -- so has each index of the database
 abbrev pub HaveItsKeys : ℤ → List ℕ → Option Value → Trees → Type 0
-HaveItsKeys db id seen trees = AllByRecursion (λ r. home_of r ≡ db → HasItsKey id seen trees r) (trees decls_tree)
+HaveItsKeys db id seen trees = AllByRecursion (λ r. database_of_declaration r ≡ db → HasItsKey id seen trees r) (trees decls_tree)
 
 -- each index that the document of this row declares has a row, and each index of its database has its entry
 pub record IsIndexedDocument (trees : Trees) (d : Row) : Type 0 where

@@ -6,7 +6,7 @@ use Rattle.sqlite_trees.specs.Tree.{Trees}
 use Rattle.sqlite.specs.Effect.{Database}
 use Rattle.sqlite.specs.Held.{Held, state}
 use Rattle.sqlite.specs.State.{HasCleanDisk, IsUnchanged}
-use Rattle.tables.specs.Calls.{IsServed, Stands}
+use Rattle.tables.specs.Calls.{IsServed, KeepsConnection}
 use Rattle.tables.specs.Schema.{schema}
 use Rattle.tables.specs.Steps.{Asks}
 
@@ -14,7 +14,7 @@ use Rattle.tables.specs.Steps.{Asks}
 pub record Inspects {S X E : Type 0} (g : Ghosts S) (IsFit : Database → Type 0) (old new : Held S) (Is : Trees → X → Type 0) (r : Result X E) : Type 0 where
   pub found : HasCleanDisk (state g new) → IsFit (state g old).now → IfOk r (Is (state g old).now.trees)
   pub served : IsServed g old new r
-  pub stands : Stands g old new r
+  pub stands : KeepsConnection g old new r
   pub looks : old.schema ≡ schema → HasCleanDisk (state g new) → IsTrue (state g new).is_open → ((state g new).now ≡ (state g old).now) ⊎ ((state g new).now ≡ (state g old).committed)
   pub asks : Asks (state g old) (state g new)
 

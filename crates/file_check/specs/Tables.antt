@@ -10,7 +10,7 @@ use Rattle.sqlite_trees.specs.Tree.{Trees, IsAscending}
 use Rattle.tree.specs.History.{HistoryContent, held_of, is_leaf}
 use Rattle.tree.specs.Revision.{Revision}
 use Rattle.tables.specs.Layout.{AreNumbered, version_row, IsDatabaseRow, IsDocumentRow, IsLocalRow, IsRevisionRow}
-use Rattle.tables.specs.Rows.{db_of, history_in, id_of, name_of, number_of, security_text, whole_in, winner_text}
+use Rattle.tables.specs.Rows.{db_of, history_in_rows, id_of, name_of, number_of, security_text, whole_in_cell, winner_text}
 use Rattle.tables.specs.Schema.{schema, meta_tree, dbs_tree, docs_tree, revs_tree, locals_tree}
 use Rattle.file_check.specs.Indexes.{IsFinding}
 use Rattle.file_check.specs.declared.finding.Finding.{Finding}
@@ -36,25 +36,25 @@ IsTextOrNull v = (v ≡ Null) ⊎ (v ≡ Text (bytes v))
 
 -- the cells of a row are of the kinds of its columns
 abbrev pub HasVersionCells : Row → Type 0
-HasVersionCells r = r ≡ Int (number_of r) ∷ Int (whole_in (column r 1)) ∷ []
+HasVersionCells r = r ≡ Int (number_of r) ∷ Int (whole_in_cell (column r 1)) ∷ []
 
 abbrev pub HasDatabaseCells : Row → Type 0
-HasDatabaseCells r = r ≡ Int (number_of r) ∷ Null ∷ Blob (name_of r) ∷ Text (security_text r) ∷ Int (whole_in (column r 4)) ∷ []
+HasDatabaseCells r = r ≡ Int (number_of r) ∷ Null ∷ Blob (name_of r) ∷ Text (security_text r) ∷ Int (whole_in_cell (column r 4)) ∷ []
 
 abbrev pub HasDocumentCells : Row → Type 0
-HasDocumentCells r = r ≡ Int (number_of r) ∷ Int (db_of r) ∷ Blob (id_of r) ∷ Int (whole_in (column r 3)) ∷ Text (winner_text r) ∷ Int (whole_in (column r 5)) ∷ []
+HasDocumentCells r = r ≡ Int (number_of r) ∷ Int (db_of r) ∷ Blob (id_of r) ∷ Int (whole_in_cell (column r 3)) ∷ Text (winner_text r) ∷ Int (whole_in_cell (column r 5)) ∷ []
 
 pub record HasRevisionCells (r : Row) : Type 0 where
-  pub is : r ≡ Int (number_of r) ∷ Int (db_of r) ∷ Blob (id_of r) ∷ Int (whole_in (column r 3)) ∷ Text (bytes (column r 4)) ∷ column r 5 ∷ Int (whole_in (column r 6)) ∷ Int (whole_in (column r 7)) ∷ column r 8 ∷ []
+  pub is : r ≡ Int (number_of r) ∷ Int (db_of r) ∷ Blob (id_of r) ∷ Int (whole_in_cell (column r 3)) ∷ Text (bytes (column r 4)) ∷ column r 5 ∷ Int (whole_in_cell (column r 6)) ∷ Int (whole_in_cell (column r 7)) ∷ column r 8 ∷ []
   pub parent : IsTextOrNull (column r 5)
   pub body : IsTextOrNull (column r 8)
 
 abbrev pub HasLocalCells : Row → Type 0
-HasLocalCells r = r ≡ Int (number_of r) ∷ Int (db_of r) ∷ Blob (id_of r) ∷ Int (whole_in (column r 3)) ∷ Text (bytes (column r 4)) ∷ []
+HasLocalCells r = r ≡ Int (number_of r) ∷ Int (db_of r) ∷ Blob (id_of r) ∷ Int (whole_in_cell (column r 3)) ∷ Text (bytes (column r 4)) ∷ []
 
 -- the number and the hash of the row of a revision, as they are stored
 abbrev pub stored_revision : Row → ℤ × List ℕ
-stored_revision r = (whole_in (column r 3), bytes (column r 4))
+stored_revision r = (whole_in_cell (column r 3), bytes (column r 4))
 
 -- The rows of each table are numbered, have cells of the kinds of its columns, and no two have the same unique key.
 pub record AreShaped (trees : Trees) : Type 0 where
@@ -66,7 +66,7 @@ pub record AreShaped (trees : Trees) : Type 0 where
   pub locals : AllByRecursion HasLocalCells (trees locals_tree)
   pub names_apart : IsAscending (λ a b. name_of a ≢ name_of b) (trees dbs_tree)
   pub ids_apart : IsAscending (λ a b. db_of a ≡ db_of b → id_of a ≢ id_of b) (trees docs_tree)
-  pub sequences_apart : IsAscending (λ a b. db_of a ≡ db_of b → whole_in (column a 3) ≢ whole_in (column b 3)) (trees docs_tree)
+  pub sequences_apart : IsAscending (λ a b. db_of a ≡ db_of b → whole_in_cell (column a 3) ≢ whole_in_cell (column b 3)) (trees docs_tree)
   pub revisions_apart : IsAscending (λ a b. db_of a ≡ db_of b → id_of a ≡ id_of b → stored_revision a ≢ stored_revision b) (trees revs_tree)
   pub local_ids_apart : IsAscending (λ a b. db_of a ≡ db_of b → id_of a ≢ id_of b) (trees locals_tree)
 
@@ -84,7 +84,7 @@ HasHeldLeaves h = (r : Revision) → IsTrue (is_leaf h r) → IsTrue (is_some (h
 -- the row of a document, whose leaves are held
 pub record IsSoundDocument (trees : Trees) (r : Row) : Type 0 where
   pub row : IsDocumentRow trees r
-  pub leaves : HasHeldLeaves (history_in (trees revs_tree) (db_of r) (id_of r))
+  pub leaves : HasHeldLeaves (history_in_rows (trees revs_tree) (db_of r) (id_of r))
 
 -- ---- the tables that are checked row by row
 
@@ -131,15 +131,15 @@ pub record HasSoundLocals (trees : Trees) : Type 0 where
 -- ---- what is found
 
 -- the table that a finding in these rows names
-abbrev pub table_of : Checked → Table
-table_of Databases = table.Databases
-table_of Documents = table.Documents
-table_of Revisions = table.Revisions
-table_of Locals = table.Locals
+abbrev pub table_of_finding : Checked → Table
+table_of_finding Databases = table.Databases
+table_of_finding Documents = table.Documents
+table_of_finding Revisions = table.Revisions
+table_of_finding Locals = table.Locals
 
 -- the row of this table with the finding's number is not sound
 abbrev pub IsRowFinding : Checked → Trees → Finding → Type 0
-IsRowFinding of trees f = IsFinding (table_of of) (trees (tree_of of)) (IsSoundRow of trees) f
+IsRowFinding of trees f = IsFinding (table_of_finding of) (trees (tree_of of)) (IsSoundRow of trees) f
 
 -- `meta` has other rows than the one of this version
 pub record IsVersionFinding (trees : Trees) (f : Finding) : Type 0 where

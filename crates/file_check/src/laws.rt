@@ -5,20 +5,20 @@ ghost use Rattle.sqlite_trees.specs.Tree.{Trees};
 ghost use Rattle.sqlite_trees.specs.View as tree;
 ghost use Rattle.sqlite_trees.specs.declared.store.Shape.TheVariants as shape;
 ghost use Rattle.sqlite_value.specs.Order.{Row};
-ghost use Rattle.tables.specs.Layout.{AreNumbered, IsLaid};
+ghost use Rattle.tables.specs.Layout.{AreNumbered, IsWellFormed};
 ghost use Rattle.file_check.specs.Tables.{AreKept, AreShaped, HasSoundLocals, IsTableFinding};
 ghost use Rattle.file_check.specs.declared.finding.Finding.{Finding};
 
 /// Tables are laid out where SQLite keeps their rows and each is sound, and only there.
 pub fn laid_where_sound()
-    ensures sound { (trees : Trees) → AreShaped trees → HasSoundLocals trees → IsLaid trees }
-    ensures rows { (trees : Trees) → IsLaid trees → HasSoundLocals trees }
-    ensures kept { (trees : Trees) → IsLaid trees → AreKept trees }
+    ensures sound { (trees : Trees) → AreShaped trees → HasSoundLocals trees → IsWellFormed trees }
+    ensures rows { (trees : Trees) → IsWellFormed trees → HasSoundLocals trees }
+    ensures kept { (trees : Trees) → IsWellFormed trees → AreKept trees }
 {}
 
 /// Where a row is found that is not sound, the tables are not laid out.
 pub fn a_finding_is_of_no_store()
-    ensures { (trees : Trees) (f : Finding) → IsTableFinding trees f → ¬ IsLaid trees }
+    ensures { (trees : Trees) (f : Finding) → IsTableFinding trees f → ¬ IsWellFormed trees }
 {}
 
 /// The numbers of the rows of a table rise in its tree, as a store of the kit keeps it.

@@ -10,7 +10,7 @@ use Rattle.couch_json.specs.Value.{Value, text, truth, Members, no_members, memb
 use Rattle.tree.specs.DocumentId.{is_design_id}
 use Rattle.tree.specs.History.{HistoryContent, held_of}
 use Rattle.tree.specs.Revision.{Revision, text_of}
-use Rattle.tree.specs.ShownDocument.{members_in, shown_document, with_mark}
+use Rattle.tree.specs.ShownDocument.{body_members, document_at_revision, with_mark}
 use Rattle.tree.specs.declared.entry.Held.{Held}
 use Rattle.store.specs.Indexes.{queried_document, shown_by}
 use Rattle.store.specs.Pages.{live_rev}
@@ -64,12 +64,12 @@ id_under_mark : (deleted : Bool) (ms : Members) → member_at (codes "_id") (wit
 id_under_mark true ms = member_at-put_other (codes "_id") (codes "_deleted") (truth true) ms refl
 id_under_mark false ms = refl
 
-id_of-shown_document : (id : List ℕ) (r : Revision) (held : Held) → id_of (shown_document id r held) ≡ Some id
+id_of-shown_document : (id : List ℕ) (r : Revision) (held : Held) → id_of (document_at_revision id r held) ≡ Some id
 id_of-shown_document id r held =
-    let named = put (codes "_id") (text id) (members_in held.body) in
+    let named = put (codes "_id") (text id) (body_members held.body) in
     ap (option_and_then text_in)
     (id_under_mark held.deleted (put (codes "_rev") (text (text_of r)) named) ∙ member_at-put_other (codes "_id") (codes "_rev") (text (text_of r)) named refl
-    ∙ member_at-put_same (codes "_id") (text id) (members_in held.body))
+    ∙ member_at-put_same (codes "_id") (text id) (body_members held.body))
 
 none_shown : (id : List ℕ) (v : Value) → None ≡ Some v → id_of v ≡ Some id
 none_shown id v e = absurd cc
@@ -78,9 +78,9 @@ id_of-shown_by : (id : List ℕ) (h : HistoryContent) (o : Option Revision) (v :
 id_of-shown_by id h None v e = none_shown id v e
 id_of-shown_by id h (Some r) v e = by (held_of h r) e
   where
-    by : (held : Option Held) → option_map (λ x. shown_document id r x) held ≡ Some v → id_of v ≡ Some id
+    by : (held : Option Held) → option_map (λ x. document_at_revision id r x) held ≡ Some v → id_of v ≡ Some id
     by None none = none_shown id v none
-    by (Some held) is = let same : shown_document id r held ≡ v = cc in ap id_of (sym same) ∙ id_of-shown_document id r held
+    by (Some held) is = let same : document_at_revision id r held ≡ v = cc in ap id_of (sym same) ∙ id_of-shown_document id r held
 
 pub id_of-queried_document : (id : List ℕ) (h : HistoryContent) (v : Value) → queried_document id h ≡ Some v → id_of v ≡ Some id
 id_of-queried_document id h v e = by (is_design_id id) e

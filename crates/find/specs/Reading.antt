@@ -5,7 +5,7 @@ use Rattle.find.specs.declared.fault.QueryFault.{QueryFault}
 use Rattle.find.specs.declared.fault.QueryFault.TheVariants.{Shape, Memory}
 
 -- What is defined, as it is shown; a fault of shape comes where nothing is, and lack of memory in place of any answer.
-abbrev pub Reads : {X A : Type 0} → (X → A) → Option A → Result X QueryFault → Type 0
-Reads shown defined (Ok x) = defined ≡ Some (shown x)
-Reads shown defined (Err Shape) = defined ≡ None
-Reads shown defined (Err Memory) = ⊤
+abbrev pub ReadsAsDefined : {X A : Type 0} → (X → A) → Option A → Result X QueryFault → Type 0
+ReadsAsDefined shown defined (Ok x) = defined ≡ Some (shown x)
+ReadsAsDefined shown defined (Err Shape) = defined ≡ None
+ReadsAsDefined shown defined (Err Memory) = ⊤

@@ -6,7 +6,7 @@ ghost use Rattle.policy.specs.DesignDocuments.{is_index_name};
 ghost use Rattle.tree.specs.DocumentId.{is_design_id};
 ghost use Rattle.find.specs.IndexRead.{index_asked};
 ghost use Rattle.find.specs.Indexes.{design_in, field_list, index_fields, index_in, index_name_in, is_json_type};
-ghost use Rattle.find.specs.Reading.{Reads};
+ghost use Rattle.find.specs.Reading.{ReadsAsDefined};
 
 use crate::fault::QueryFault;
 use crate::sort::read_each;
@@ -43,7 +43,7 @@ impl Index {
     /// alone, 1 to 8, each a path or `{"PATH":"asc"}`. `Shape` comes if and only if it asks for none,
     /// unless memory runs out first. See the CouchDB manual, api/database/find.
     pub fn read(alloc: Global, value: &Json) -> Result<Index, QueryFault>
-        ensures asked { Reads index_asked (index_in (view value.now)) result }
+        ensures asked { ReadsAsDefined index_asked (index_in (view value.now)) result }
         ensures design { IfOk result (λ index. is_design_id index.design ≡ true) }
     {
         if !value.has_only(&["ddoc", "index", "name", "type"]) || !is_json(value.member("type")) {
@@ -70,7 +70,7 @@ fn is_json(kind: Option<&Json>) -> bool
 
 /// Reads the id of the design document that a value names.
 fn read_design(alloc: Global, value: Option<&Json>) -> Result<DocId, QueryFault>
-    ensures named { Reads (λ id. id) (option_and_then design_in (option_map (λ v. view v.now) value.entry)) result }
+    ensures named { ReadsAsDefined (λ id. id) (option_and_then design_in (option_map (λ v. view v.now) value.entry)) result }
     ensures design { IfOk result (λ id. is_design_id id ≡ true) }
 {
     let Some(Json::Text(name)) = value else {
@@ -87,7 +87,7 @@ fn read_design(alloc: Global, value: Option<&Json>) -> Result<DocId, QueryFault>
 
 /// Reads the name of an index.
 fn read_name(alloc: Global, value: Option<&Json>) -> Result<String, QueryFault>
-    ensures { Reads string_bytes (option_and_then index_name_in (option_map (λ v. view v.now) value.entry)) result }
+    ensures { ReadsAsDefined string_bytes (option_and_then index_name_in (option_map (λ v. view v.now) value.entry)) result }
 {
     match value {
         Some(Json::Text(name)) if is_index_name(name) => Ok(String::from_str(
@@ -106,7 +106,7 @@ fn is_index_name(name: &str) -> bool
 
 /// Reads the fields of an index.
 fn read_fields(alloc: Global, value: Option<&Json>) -> Result<Vec<FieldPath>, QueryFault>
-    ensures { Reads (λ fields. fields.items) (option_and_then index_fields (option_map (λ v. view v.now) value.entry)) result }
+    ensures { ReadsAsDefined (λ fields. fields.items) (option_and_then index_fields (option_map (λ v. view v.now) value.entry)) result }
 {
     let Some(index) = value else {
         return Err(QueryFault::Shape);
@@ -123,7 +123,7 @@ fn read_fields(alloc: Global, value: Option<&Json>) -> Result<Vec<FieldPath>, Qu
 /// Reads 1 to 8 fields that go up.
 #[tactic(auto, using(policy::proofs::Fields::items_length_of_view))]
 fn read_list(alloc: Global, entries: &[Json]) -> Result<Vec<FieldPath>, QueryFault>
-    ensures { Reads (λ fields. fields.items) (field_list (items_view entries.now)) result }
+    ensures { ReadsAsDefined (λ fields. fields.items) (field_list (items_view entries.now)) result }
 {
     if entries.is_empty() || entries.len() > 8 {
         return Err(QueryFault::Shape);

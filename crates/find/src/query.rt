@@ -3,7 +3,7 @@ ghost use Rattle.couch_json.specs.Value.{whole};
 ghost use Rattle.couch_json.specs.View.{view};
 ghost use Rattle.selector.specs.Grammar.{selector_in};
 ghost use Rattle.find.specs.Queries.{count_in, count_or, query_in};
-ghost use Rattle.find.specs.Reading.{Reads};
+ghost use Rattle.find.specs.Reading.{ReadsAsDefined};
 
 use crate::fault::QueryFault;
 use crate::sort::{is_descending, read_fields, sort_entries};
@@ -48,7 +48,7 @@ impl Query {
     /// `Shape` comes if and only if it is none, unless memory runs out first. Without a limit it is
     /// 25. See the CouchDB manual, api/database/find.
     pub fn read(alloc: Global, value: &Json) -> Result<Query, QueryFault>
-        ensures { Reads (λ query. query) (query_in (view value.now)) result }
+        ensures { ReadsAsDefined (λ query. query) (query_in (view value.now)) result }
     {
         if !value.has_only(&["selector", "sort", "limit", "skip"]) {
             return Err(QueryFault::Shape);
@@ -67,7 +67,7 @@ impl Query {
 
 /// Reads the selector, which has to be there.
 fn read_selector(alloc: Global, value: Option<&Json>) -> Result<Selector, QueryFault>
-    ensures { Reads (λ selector. selector) (option_and_then selector_in (option_map (λ v. view v.now) value.entry)) result }
+    ensures { ReadsAsDefined (λ selector. selector) (option_and_then selector_in (option_map (λ v. view v.now) value.entry)) result }
 {
     let Some(value) = value else {
         return Err(QueryFault::Shape);
@@ -81,7 +81,7 @@ fn read_selector(alloc: Global, value: Option<&Json>) -> Result<Selector, QueryF
 
 /// Reads a number from 0 to 2^63 - 1; where no value is there, it is the other one.
 fn read_count(value: Option<&Json>, absent: u64) -> Result<u64, QueryFault>
-    ensures { Reads (λ count. count) (count_or absent (option_map (λ v. view v.now) value.entry)) result }
+    ensures { ReadsAsDefined (λ count. count) (count_or absent (option_map (λ v. view v.now) value.entry)) result }
 {
     match value {
         Some(Json::Whole(number)) => count_of(*number),
@@ -91,7 +91,7 @@ fn read_count(value: Option<&Json>, absent: u64) -> Result<u64, QueryFault>
 }
 
 fn count_of(number: Number) -> Result<u64, QueryFault>
-    ensures { Reads (λ count. count) (count_in (whole number)) result }
+    ensures { ReadsAsDefined (λ count. count) (count_in (whole number)) result }
 {
     match u64::try_from(number.value()) {
         Ok(count) if count <= 9_223_372_036_854_775_807 => Ok(count),

@@ -4,7 +4,7 @@ ghost use Rattle.std.specs.Prelude.{◌≡◌, bytes_eq, option_map};
 ghost use Rattle.couch_json.specs.View.{items_view, members_view, view};
 ghost use Rattle.find.specs.Queries.{direction_text, entry_in, goes_down, is_descending, path_in, sole_member};
 ghost use Rattle.find.specs.Queries.{sort_entries, sort_field, sort_fields, sort_fields_of};
-ghost use Rattle.find.specs.Reading.{Reads};
+ghost use Rattle.find.specs.Reading.{ReadsAsDefined};
 
 use crate::fault::QueryFault;
 use crate::sort_fields::SortFields;
@@ -13,7 +13,7 @@ use std::alloc::Global;
 
 /// Returns the entries of a sort, which has to be a list; where there is none, it has none.
 pub(crate) fn sort_entries(sort: Option<&Json>) -> Result<&[Json], QueryFault>
-    ensures { Reads (λ entries. items_view entries.now) (sort_entries (option_map (λ v. view v.now) sort.entry)) result }
+    ensures { ReadsAsDefined (λ entries. items_view entries.now) (sort_entries (option_map (λ v. view v.now) sort.entry)) result }
 {
     match sort {
         Some(sort) => sort.items().ok_or(QueryFault::Shape),
@@ -34,7 +34,7 @@ pub(crate) fn is_descending(entries: &[Json]) -> bool
 /// Reads the fields of a sort, at most 8, whose entries have one direction.
 #[tactic(auto, using(policy::proofs::Fields::items_length_of_view))]
 pub(crate) fn read_fields(alloc: Global, entries: &[Json]) -> Result<SortFields, QueryFault>
-    ensures { Reads (λ fields. fields) (sort_fields (items_view entries.now)) result }
+    ensures { ReadsAsDefined (λ fields. fields) (sort_fields (items_view entries.now)) result }
 {
     if entries.len() > 8 {
         return Err(QueryFault::Shape);
@@ -49,7 +49,7 @@ pub(crate) fn read_each(
     entries: &[Json],
     descending: bool,
 ) -> Result<Vec<FieldPath>, QueryFault>
-    ensures { Reads (λ fields. fields.items) (sort_fields_of descending (items_view entries.now)) result }
+    ensures { ReadsAsDefined (λ fields. fields.items) (sort_fields_of descending (items_view entries.now)) result }
 {
     let mut fields = Vec::with_capacity(alloc, entries.len())?;
     for entry in entries {
@@ -60,7 +60,7 @@ pub(crate) fn read_each(
 
 /// Reads the field of an entry that has this direction.
 fn read_field(alloc: Global, entry: &Json, descending: bool) -> Result<FieldPath, QueryFault>
-    ensures { Reads (λ field. field) (sort_field descending (view entry.now)) result }
+    ensures { ReadsAsDefined (λ field. field) (sort_field descending (view entry.now)) result }
 {
     let Some((path, direction)) = parts_of(entry) else {
         return Err(QueryFault::Shape);
@@ -72,7 +72,7 @@ fn read_field(alloc: Global, entry: &Json, descending: bool) -> Result<FieldPath
 }
 
 fn read_path(alloc: Global, text: &str) -> Result<FieldPath, QueryFault>
-    ensures { Reads (λ path. path) (path_in text.now) result }
+    ensures { ReadsAsDefined (λ path. path) (path_in text.now) result }
 {
     match FieldPath::parse(alloc, text) {
         Ok(path) => Ok(path),

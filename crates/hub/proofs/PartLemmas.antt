@@ -13,11 +13,11 @@ use Rattle.couch_http.specs.Reply.{Reply}
 use Rattle.couch_http.specs.Stream.{Cuts, StreamEnd, unfinished, ended, faulty}
 use Rattle.store.specs.Calls.{GoesOn}
 use Rattle.store.specs.declared.store.Store.{Ghosts}
-use Rattle.streams.specs.Writing.{Takes}
+use Rattle.couch_http.specs.Writing.{Takes}
 use Rattle.hub.proofs.Arrivals.{ended_next, rest_same}
 use Rattle.hub.proofs.ServiceLemmas.{open_after, piece_served}
 use Rattle.hub.proofs.Serving.{serves_then}
-use Rattle.hub.specs.Answering.{Serves}
+use Rattle.hub.specs.Answering.{RepliesInOrder}
 use Rattle.hub.specs.Connections.{ConnectionTable, is_open, rest_on, with_rest}
 use Rattle.hub.specs.Endings.{is_last, last_replies, rest_of}
 use Rattle.hub.specs.Feeding.{HubState, IsFed}
@@ -73,7 +73,7 @@ module _ {S : Type 0} (g : Ghosts S) (old mid new : HubState S) (conn : ℕ) whe
             answers = a.answers ++ b.answers;
             replies = ap₂ (λ (xs ys : List Reply). xs ++ ys) answered b.replies ∙ sym (append_assoc a.answers b.answers (last_replies b.end));
             serves = λ h. serves_then g old.node.configuration old.node.store mid.node.store new.node.store a.messages b.messages a.answers b.answers (a.serves (on.honest h))
-                (subst (λ (c : Configuration). Serves g c mid.node.store b.messages b.answers new.node.store) same (b.serves h));
+                (subst (λ (c : Configuration). RepliesInOrder g c mid.node.store b.messages b.answers new.node.store) same (b.serves h));
             left = b.left ∙ ap (λ (t : ConnectionTable). with_rest t conn (rest_of b.end)) kept ∙ rest_over old.connections conn r (rest_of b.end);
             ends = b.ends;
           }

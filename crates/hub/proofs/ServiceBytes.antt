@@ -2,8 +2,8 @@
 use Rattle.std.proofs.Common.{◌≡◌, ◌∙◌, ℕ, ◌+◌, ◌<◌, ◌≤◌, true, false, List, [], ◌++◌, Option, sym, ap, subst, length, get_or, drop}
 use Rattle.std.proofs.lemmas.List.{at_drop_more, drop_all}
 use Rattle.couch_http.specs.Reply.{Reply}
-use Rattle.streams.proofs.Taken.{HasTaken, taken_part, taken_whole}
-use Rattle.streams.specs.Writing.{Takes}
+use Rattle.couch_http.proofs.Taken.{HasTaken, taken_part, taken_whole}
+use Rattle.couch_http.specs.Writing.{Takes}
 use Rattle.hub.specs.Service.{bytes_of}
 
 -- the replies behind a place begin with the one there

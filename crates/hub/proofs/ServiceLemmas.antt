@@ -15,8 +15,8 @@ use Rattle.store.specs.declared.store.Store.{Ghosts}
 use Rattle.hub.specs.Connections.{ConnectionTable, is_open, next_connection, rest_on, was_opened, with_connection, with_rest, without}
 use Rattle.hub.specs.Endings.{is_last, rest_of}
 use Rattle.hub.specs.Feeding.{HubState, IsFed}
-use Rattle.streams.specs.Writing.{Takes}
-use Rattle.hub.specs.Service.{AreFed, IsServed, Serves, bytes_of, end_after_farewell, end_after_replies, farewell, greatest_piece}
+use Rattle.couch_http.specs.Writing.{Takes}
+use Rattle.hub.specs.Service.{AreFed, IsServed, Link, Serves, bytes_of, end_after_farewell, end_after_replies, farewell, greatest_piece}
 use Rattle.hub.specs.declared.service_end.ServiceEnd.{ServiceEnd}
 use Rattle.hub.specs.declared.service_end.ServiceEnd.TheVariants.{LastReply, EndOfInput, WriteFailed, Memory}
 
@@ -141,16 +141,16 @@ module _ {S : Type 0} (g : Ghosts S) (old mid new : HubState S) (conn : ℕ) whe
       quiet (inr (h, inl e)) = absurd (cc)
       quiet (inr (h, inr e)) = absurd (cc)
 
-  pub serves_more : (end : Option ServiceEnd) (n m : ℕ) (input between rest output also after : Option (List ℕ))
-      → Serves g old conn None n input between output also mid → Serves g mid conn end m between rest also after new → Serves g old conn end (n + m) input rest output after new
-  serves_more end n m input between rest output also after a b = record {
-    read = a.read ++ b.read;
-    written = a.written ++ b.written;
-    consumes = Consumes-trans input between rest a.read b.read a.consumes b.consumes;
-    appends = Appends-trans output also after a.written b.written a.appends b.appends;
-    at_end = b.at_end;
-    served = served_more end n m a.read b.read a.written b.written a.served b.served;
-  }
+pub serves_more : {S : Type 0} (g : Ghosts S) (conn : ℕ) (end : Option ServiceEnd) (n m : ℕ) {old mid new : Link S} → Serves g conn None n old mid → Serves g conn end m mid new
+    → Serves g conn end (n + m) old new
+serves_more g conn end n m {old} {mid} {new} a b = record {
+  read = a.read ++ b.read;
+  written = a.written ++ b.written;
+  consumes = Consumes-trans old.input mid.input new.input a.read b.read a.consumes b.consumes;
+  appends = Appends-trans old.output mid.output new.output a.written b.written a.appends b.appends;
+  at_end = b.at_end;
+  served = served_more g old.hub mid.hub new.hub conn end n m a.read b.read a.written b.written a.served b.served;
+}
 
 -- nothing was read or written yet, or any more
 pub served_none : {S : Type 0} (g : Ghosts S) (old : HubState S) (conn : ℕ) (end : Option ServiceEnd) → end ≢ Some Memory → end ≢ Some LastReply
@@ -173,7 +173,8 @@ served_none g old conn end no_memory no_last was = record {
 }
 
 pub serves_none : {S : Type 0} (g : Ghosts S) (old : HubState S) (conn : ℕ) (end : Option ServiceEnd) (input rest output : Option (List ℕ)) → end ≢ Some Memory → end ≢ Some LastReply
-    → Consumes input rest [] → (end ≡ Some EndOfInput → IsAtEnd rest) → is_open old.connections conn ≡ true → Serves g old conn end 0 input rest output output old
+    → Consumes input rest [] → (end ≡ Some EndOfInput → IsAtEnd rest) → is_open old.connections conn ≡ true
+    → Serves g conn end 0 (record { hub = old; input = input; output = output }) (record { hub = old; input = rest; output = output })
 serves_none g old conn end input rest output no_memory no_last unread at was = record {
   read = [];
   written = [];
@@ -215,15 +216,15 @@ served_up g old new conn n read written end no_memory no_last h = record {
     quiet (inr (h, inl e)) = absurd (cc)
     quiet (inr (h, inr e)) = absurd (cc)
 
-pub serves_up : {S : Type 0} (g : Ghosts S) (old new : HubState S) (conn n : ℕ) (input rest output after : Option (List ℕ)) (end : Option ServiceEnd) → end ≢ Some Memory → end ≢ Some LastReply
-    → end ≢ Some EndOfInput → Serves g old conn None n input rest output after new → Serves g old conn end n input rest output after new
-serves_up g old new conn n input rest output after end no_memory no_last no_end h = record {
+pub serves_up : {S : Type 0} (g : Ghosts S) (old new : Link S) (conn n : ℕ) (end : Option ServiceEnd) → end ≢ Some Memory → end ≢ Some LastReply → end ≢ Some EndOfInput
+    → Serves g conn None n old new → Serves g conn end n old new
+serves_up g old new conn n end no_memory no_last no_end h = record {
   read = h.read;
   written = h.written;
   consumes = h.consumes;
   appends = h.appends;
   at_end = λ e. absurd (no_end e);
-  served = served_up g old new conn n h.read h.written end no_memory no_last h.served;
+  served = served_up g old.hub new.hub conn n h.read h.written end no_memory no_last h.served;
 }
 
 -- ---- one piece

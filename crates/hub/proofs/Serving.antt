@@ -13,7 +13,7 @@ use Rattle.couch_http.specs.declared.request.Request.{Request}
 use Rattle.store.specs.declared.store.Store.{Ghosts}
 use Rattle.node.specs.Runs.{IsRun, Stepped, end_of, messages_of}
 use Rattle.node.specs.Step.{Serving}
-use Rattle.hub.specs.Answering.{Serves, StoreSteps, replies_of}
+use Rattle.hub.specs.Answering.{RepliesInOrder, StoreSteps, replies_of}
 use Rattle.hub.specs.Connections.{ConnectionTable}
 use Rattle.hub.specs.Cutters.{IsCut, IsEnding, refusal_at}
 use Rattle.hub.specs.Endings.{is_last, last_replies}
@@ -36,12 +36,12 @@ told_push : {S : Type 0} (ss : List (Stepped S)) (s : Stepped S) → replies_of 
 told_push [] s = refl
 told_push (t ∷ ts) s = ap (λ rs. t.reply ∷ rs) (told_push ts s)
 
-pub serves_none : {S : Type 0} (g : Ghosts S) (c : Configuration) (before : S) → Serves g c before [] [] before
+pub serves_none : {S : Type 0} (g : Ghosts S) (c : Configuration) (before : S) → RepliesInOrder g c before [] [] before
 serves_none g c before = record { steps = []; run = tt; requests = refl; answers = refl; ends = refl }
 
 -- one more request
 serves_push : {S : Type 0} (g : Ghosts S) (c : Configuration) (before between after : S) (ms : List Message) (rs : List Reply) (m : Message) (r : Reply)
-    → Serves g c before ms rs between → StoreSteps g c between m r after → Serves g c before (ms ++ m ∷ []) (rs ++ r ∷ []) after
+    → RepliesInOrder g c before ms rs between → StoreSteps g c between m r after → RepliesInOrder g c before (ms ++ m ∷ []) (rs ++ r ∷ []) after
 serves_push {S} g c before between after ms rs m r p next =
     let s : Stepped S = record { message = m; reply = r; after = after } in
     record {
@@ -54,8 +54,8 @@ serves_push {S} g c before between after ms rs m r p next =
 
 -- the same at the next request of a list
 pub serves_more : {S : Type 0} (g : Ghosts S) (c k : Configuration) → k ≡ c → (before between after : S) (requests : List Request) (i : ℕ) (q : Request) → i < length requests
-    → q ≡ get_or requests i q → (rs : List Reply) (r : Reply) → Serves g c before (map message_of (take i requests)) rs between → StoreSteps g k between (message_of q) r after
-    → Serves g c before (map message_of (take (i + 1) requests)) (rs ++ r ∷ []) after
+    → q ≡ get_or requests i q → (rs : List Reply) (r : Reply) → RepliesInOrder g c before (map message_of (take i requests)) rs between → StoreSteps g k between (message_of q) r after
+    → RepliesInOrder g c before (map message_of (take (i + 1) requests)) (rs ++ r ∷ []) after
 serves_more g c k same before between after requests i q inside at rs r p next =
     let items : map message_of (take (i + 1) requests) ≡ map message_of (take i requests) ++ message_of q ∷ [] =
     map_more message_of requests i q inside ∙ ap (λ (x : Request). map message_of (take i requests) ++ message_of x ∷ []) (sym at) in
@@ -80,7 +80,7 @@ replies_more [] ys = refl
 replies_more (x ∷ xs) ys = ap (λ (rs : List Reply). x.reply ∷ rs) (replies_more xs ys)
 
 pub serves_then : {S : Type 0} (g : Ghosts S) (c : Configuration) (before between after : S) (ms ns : List Message) (rs ss : List Reply)
-    → Serves g c before ms rs between → Serves g c between ns ss after → Serves g c before (ms ++ ns) (rs ++ ss) after
+    → RepliesInOrder g c before ms rs between → RepliesInOrder g c between ns ss after → RepliesInOrder g c before (ms ++ ns) (rs ++ ss) after
 serves_then {S} g c before between after ms ns rs ss x y = record {
   steps = x.steps ++ y.steps;
   run = run_more (StoreSteps g c) before x.steps y.steps x.run (subst (λ (s : S). IsRun (StoreSteps g c) s y.steps) (sym x.ends) y.run);
@@ -118,7 +118,7 @@ last_is (Fault g) (faulty f) is false on off = absurd (let e = off refl in cc)
 
 -- a piece was cut, its requests answered, and the end of its stream too
 pub fed : {S : Type 0} (g : Ghosts S) (before after : Serving S) (old new : ConnectionTable) (conn : ℕ) (piece : List ℕ) (cut : Cut) (answers list : List Reply) (last : Bool)
-    → IsCut old conn piece cut new → (g.is_honest after.store → Serves g before.configuration before.store (cutting.messages_of cut) answers after.store)
+    → IsCut old conn piece cut new → (g.is_honest after.store → RepliesInOrder g before.configuration before.store (cutting.messages_of cut) answers after.store)
     → list ≡ answers ++ refusal_at cut.ending → (last ≡ true → cut.ending ≢ Open) → (last ≡ false → cut.ending ≡ Open)
     → IsFed g (record { node = before; connections = old }) conn piece list last (record { node = after; connections = new })
 fed g before after old new conn piece cut answers list last t serves added on off =

@@ -19,7 +19,7 @@ replies_of [] = []
 replies_of (s ∷ ss) = s.reply ∷ replies_of ss
 
 -- from one store to the other these requests have these replies, each by a step from the store that the one before left
-pub record Serves {S : Type 0} (g : Ghosts S) (c : Configuration) (before : S) (messages : List Message) (replies : List Reply) (after : S) : Type 0 where
+pub record RepliesInOrder {S : Type 0} (g : Ghosts S) (c : Configuration) (before : S) (messages : List Message) (replies : List Reply) (after : S) : Type 0 where
   pub steps : List (Stepped S)
   pub run : IsRun (StoreSteps g c) before steps
   pub requests : messages_of steps ≡ messages

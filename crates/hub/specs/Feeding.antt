@@ -6,7 +6,7 @@ use Rattle.couch_http.specs.Reply.{Reply}
 use Rattle.couch_http.specs.Stream.{Cuts, StreamEnd}
 use Rattle.store.specs.declared.store.Store.{Ghosts}
 use Rattle.node.specs.Step.{Serving}
-use Rattle.hub.specs.Answering.{Serves}
+use Rattle.hub.specs.Answering.{RepliesInOrder}
 use Rattle.hub.specs.Connections.{ConnectionTable, rest_on, with_rest}
 use Rattle.hub.specs.Endings.{is_last, last_replies, rest_of}
 
@@ -26,6 +26,6 @@ pub record IsFed {S : Type 0} (g : Ghosts S) (old : HubState S) (conn : ℕ) (pi
   pub cuts : Cuts (rest ++ piece) messages end
   pub answers : List Reply
   pub replies : list ≡ answers ++ last_replies end
-  pub serves : g.is_honest new.node.store → Serves g old.node.configuration old.node.store messages answers new.node.store
+  pub serves : g.is_honest new.node.store → RepliesInOrder g old.node.configuration old.node.store messages answers new.node.store
   pub left : new.connections ≡ with_rest old.connections conn (rest_of end)
   pub ends : last ≡ is_last end

@@ -5,7 +5,7 @@ use Rattle.couch_http.specs.Message.{Message}
 use Rattle.couch_http.specs.Reply.{Reply}
 use Rattle.couch_http.specs.Stream.{Begins, Cuts, StreamEnd, waits}
 use Rattle.store.specs.declared.store.Store.{Ghosts}
-use Rattle.streams.specs.Writing.{Takes}
+use Rattle.couch_http.specs.Writing.{Takes}
 use Rattle.hub.specs.Feeding.{HubState, IsFed}
 use Rattle.hub.specs.Service.{bytes_of, end_after_farewell, end_after_replies, farewell}
 use Rattle.hub.specs.declared.service_end.ServiceEnd.{ServiceEnd}

@@ -3,7 +3,7 @@
 use Rattle.std.specs.Prelude.{◌≡◌, ◌≢◌, ◌⊎◌, ◌≤◌, ℕ, Bool, true, false, List, [], ◌∷◌, ◌++◌, length, Option, Some, None, if◌then◌else◌}
 use Rattle.std.specs.Io.KnownBytes.{Appends, Consumes, IsAtEnd}
 use Rattle.std.specs.List.{AllByRecursion, flat_map}
-use Rattle.streams.specs.Writing.{IsPrefix, Takes}
+use Rattle.couch_http.specs.Writing.{IsPrefix, Takes}
 use Rattle.couch_http.specs.Reply.{Reply, fixed_reply}
 use Rattle.couch_http.specs.declared.fixed.Fixed.TheVariants.{NoRoom}
 use Rattle.store.specs.declared.store.Store.{Ghosts}
@@ -24,7 +24,8 @@ farewell = (fixed_reply (NoRoom true)).bytes
 
 -- ---- pieces
 
--- the pieces came on a connection, one after another, and these are all replies to them, in order
+-- The pieces came on a connection, one after another, and these are all replies to them, in order. So where the pieces are the two halves of
+-- one request, these are the reply to it, and the first half had none.
 abbrev pub AreFed : {S : Type 0} → Ghosts S → HubState S → ℕ → List (List ℕ) → List Reply → HubState S → Type 0
 AreFed g old conn [] replies new = (replies ≡ []) × (new ≡ old)
 AreFed {S} g old conn (p ∷ ps) replies new =
@@ -67,14 +68,20 @@ pub record IsServed {S : Type 0} (g : Ghosts S) (old : HubState S) (conn : ℕ) 
   pub goes_on : end ≡ None → is_open new.connections conn ≡ true
   pub last : end ≡ Some LastReply → is_open new.connections conn ≡ false
 
+-- a hub, and a connection's bytes, where they are known: those that its reader still has, and those that its writer has
+pub record Link (S : Type 0) : Type 0 where
+  pub hub : HubState S
+  pub input : Option (List ℕ)
+  pub output : Option (List ℕ)
+
 -- the same from the bytes of a reader to those of a writer
-pub record Serves {S : Type 0} (g : Ghosts S) (old : HubState S) (conn : ℕ) (end : Option ServiceEnd) (count : ℕ) (input rest output after : Option (List ℕ)) (new : HubState S) : Type 0 where
+pub record Serves {S : Type 0} (g : Ghosts S) (conn : ℕ) (end : Option ServiceEnd) (count : ℕ) (old new : Link S) : Type 0 where
   pub read : List ℕ
   pub written : List ℕ
-  pub consumes : Consumes input rest read
-  pub appends : Appends output after written
-  pub at_end : end ≡ Some EndOfInput → IsAtEnd rest
-  pub served : IsServed g old conn end count read written new
+  pub consumes : Consumes old.input new.input read
+  pub appends : Appends old.output new.output written
+  pub at_end : end ≡ Some EndOfInput → IsAtEnd new.input
+  pub served : IsServed g old.hub conn end count read written new.hub
 
 -- ---- the whole service
 
@@ -87,20 +94,19 @@ abbrev pub hub_without : {S : Type 0} → ℕ → HubState S → HubState S
 hub_without conn s = record s { connections = without s.connections conn }
 
 -- the next connection was opened, served up to this end, and closed
-pub record ServesWhole {S : Type 0} (g : Ghosts S) (old : HubState S) (end : ServiceEnd) (input rest output after : Option (List ℕ)) (new : HubState S) : Type 0 where
+pub record ServesWhole {S : Type 0} (g : Ghosts S) (old : Link S) (end : ServiceEnd) (new : Link S) : Type 0 where
   pub count : ℕ
   pub state : HubState S
-  pub serves : Serves g (hub_with_connection old) (next_connection old.connections) (Some end) count input rest output after state
+  pub serves : Serves g (next_connection old.hub.connections) (Some end) count (record old { hub = hub_with_connection old.hub }) (record new { hub = state })
   pub reads : end ≡ TooManyReads → count ≡ greatest_reads
-  pub closes : new ≡ hub_without (next_connection old.connections) state
+  pub closes : new.hub ≡ hub_without (next_connection old.hub.connections) state
 
 -- no connection was opened, and nothing read: memory ran out, and the farewell was written, or a first part of it; or there was no number left
-pub record TurnsAway {S : Type 0} (old : HubState S) (end : ServiceEnd) (input rest output after : Option (List ℕ)) (new : HubState S) : Type 0 where
-  pub same : new ≡ old
-  pub unread : rest ≡ input
-  pub refused : ((end ≡ Full) × (after ≡ output)) ⊎ ((whole : Bool) × (end ≡ end_after_farewell whole) × Takes output after farewell whole)
+pub record TurnsAway {S : Type 0} (old : Link S) (end : ServiceEnd) (new : Link S) : Type 0 where
+  pub same : new.hub ≡ old.hub
+  pub unread : new.input ≡ old.input
+  pub refused : ((end ≡ Full) × (new.output ≡ old.output)) ⊎ ((whole : Bool) × (end ≡ end_after_farewell whole) × Takes old.output new.output farewell whole)
 
 -- either of them
-abbrev pub ServesOrTurnsAway : {S : Type 0} → Ghosts S → HubState S → ServiceEnd → Option (List ℕ) → Option (List ℕ) → Option (List ℕ) → Option (List ℕ) → HubState S → Type 0
-ServesOrTurnsAway g old end input rest output after new =
-    ServesWhole g old end input rest output after new ⊎ TurnsAway old end input rest output after new
+abbrev pub ServesOrTurnsAway : {S : Type 0} → Ghosts S → Link S → ServiceEnd → Link S → Type 0
+ServesOrTurnsAway g old end new = ServesWhole g old end new ⊎ TurnsAway old end new

@@ -3,7 +3,7 @@
 ghost use Rattle.std.specs.Prelude.{◌≡◌, ◌+◌, ◌<◌, ◌≤◌, ◌++◌, [], length, map, vec_capacity, vec_len};
 ghost use Rattle.couch_http.specs.Message.{message_of};
 ghost use Rattle.store.specs.Calls.{GoesOn};
-ghost use Rattle.hub.specs.Answering.{Serves};
+ghost use Rattle.hub.specs.Answering.{RepliesInOrder};
 ghost use Rattle.hub.specs.Cutters.{refusal_at};
 
 use couch_http::{Ending, Fixed, HttpFault, Request, Response};
@@ -18,7 +18,7 @@ pub fn answer_all<S: Store + Drop>(
 )
     requires empty { list.old.items ≡ [] }
     requires spare { vec_len list.old + length requests.now + 1 ≤ vec_capacity list.old }
-    ensures served { S.is_honest node.new.store → Serves S.Store node.old.configuration node.old.store (map message_of requests.now)
+    ensures served { S.is_honest node.new.store → RepliesInOrder S.Store node.old.configuration node.old.store (map message_of requests.now)
         list.new.items node.new.store }
     ensures configuration { node.new.configuration ≡ node.old.configuration }
     ensures onward { GoesOn S.Store node.old.store node.new.store }

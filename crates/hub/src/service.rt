@@ -7,17 +7,16 @@ ghost use Rattle.hub.specs.Parts.{ServesPart};
 ghost use Rattle.hub.specs.Service.{IsServed, Serves, ServesOrTurnsAway, bytes_of, end_after_farewell};
 ghost use Rattle.hub.specs.Service.{end_after_replies, farewell, greatest_piece, greatest_reads};
 ghost use Rattle.std.specs.Io.KnownBytes.{Appends};
-ghost use Rattle.streams.specs.Writing.{Takes};
+ghost use Rattle.couch_http.specs.Writing.{Takes};
 
 use crate::fault::HubFault;
 use crate::hub::Hub;
 use crate::parts::measure_part;
 use crate::replies::Replies;
 use crate::service_end::ServiceEnd;
-use couch_http::{Fixed, Response};
+use couch_http::{Fixed, Response, read_some, write_bytes};
 use std::io::{Read, Write};
 use store::Store;
-use streams::{read_some, write_bytes};
 
 /// How many bytes a piece has at most.
 const PIECE: usize = 8_192;
@@ -35,8 +34,8 @@ pub fn serve_connection<S: Store + Drop, R: Read, W: Write>(
     reader: &mut R,
     writer: &mut W,
 ) -> ServiceEnd
-    ensures served { ServesOrTurnsAway S.Store hub.old result (R.remaining reader.old) (R.remaining reader.new)
-        (W.contents writer.old) (W.contents writer.new) hub.new }
+    ensures served { ServesOrTurnsAway S.Store (record { hub = hub.old; input = R.remaining reader.old; output = W.contents writer.old }) result
+        (record { hub = hub.new; input = R.remaining reader.new; output = W.contents writer.new }) }
     ensures ended { is_open hub.new.connections (next_connection hub.old.connections) ≡ false }
     ensures configuration { hub.new.node.configuration ≡ hub.old.node.configuration }
     ensures onward { GoesOn S.Store hub.old.node.store hub.new.node.store }
@@ -60,8 +59,9 @@ fn serve_pieces<S: Store + Drop, R: Read, W: Write>(
     writer: &mut W,
 ) -> ServiceEnd
     requires { is_open hub.old.connections conn ≡ true }
-    ensures served { (count : ℕ) × (result ≡ ServiceEnd.TooManyReads → count ≡ greatest_reads) × Serves S.Store hub.old conn (Some result) count
-        (R.remaining reader.old) (R.remaining reader.new) (W.contents writer.old) (W.contents writer.new) hub.new }
+    ensures served { (count : ℕ) × (result ≡ ServiceEnd.TooManyReads → count ≡ greatest_reads) × Serves S.Store conn (Some result) count
+        (record { hub = hub.old; input = R.remaining reader.old; output = W.contents writer.old })
+        (record { hub = hub.new; input = R.remaining reader.new; output = W.contents writer.new }) }
     ensures configuration { hub.new.node.configuration ≡ hub.old.node.configuration }
     ensures onward { GoesOn S.Store hub.old.node.store hub.new.node.store }
 {
@@ -86,8 +86,9 @@ fn serve_read<S: Store + Drop, R: Read, W: Write>(
     requires open { is_open hub.old.connections conn ≡ true }
     requires room { length room.old ≡ greatest_piece }
     ensures room { length room.new ≡ greatest_piece }
-    ensures served { (count : ℕ) × (result ≡ None → count ≡ 1) × Serves S.Store hub.old conn result count
-        (R.remaining reader.old) (R.remaining reader.new) (W.contents writer.old) (W.contents writer.new) hub.new }
+    ensures served { (count : ℕ) × (result ≡ None → count ≡ 1) × Serves S.Store conn result count
+        (record { hub = hub.old; input = R.remaining reader.old; output = W.contents writer.old })
+        (record { hub = hub.new; input = R.remaining reader.new; output = W.contents writer.new }) }
     ensures reads { result ≢ Some ServiceEnd.TooManyReads }
     ensures configuration { hub.new.node.configuration ≡ hub.old.node.configuration }
     ensures onward { GoesOn S.Store hub.old.node.store hub.new.node.store }

@@ -1,5 +1,5 @@
 -- What index rows say, and when they say the same of something else.
-use Rattle.index.proofs.Common.{AllByRecursion, AreDeclarationRows, AreEntryRows, AreIndexed, Declarations, Documents, IsIndexed, List, None, Option, Row, Some, Trees, [], all_both, and_from, ap, bytes_eq, bytes_eq-Decides, cond, declaration_at, declared_by, decls_tree, design_of, entries_tree, fields_of, find, find_found, find_passes, has_entry, has_number, home_of, index_name_of, int_eq, is_declaration_of, is_due, is_due_by, is_key, key_if_seen, number_of, option_map, refl, subst, sym, true, ℕ, ℤ, ◌∙◌, ◌∷◌, ◌≡◌, ◌≢◌}
+use Rattle.index.proofs.Common.{AllByRecursion, AreDeclarationRows, AreEntryRows, AreIndexed, Declarations, Documents, IsIndexed, List, None, Option, Row, Some, Trees, [], all_both, and_from, ap, bytes_eq, bytes_eq-Decides, cond, declaration_at, declared_by, decls_tree, design_of, entries_tree, fields_of, find, find_found, find_passes, has_entry, has_number, database_of_declaration, index_name_of_row, int_eq, is_declaration_of, is_due, is_due_by, is_key, key_if_seen, number_of, option_map, refl, subst, sym, true, ℕ, ℤ, ◌∙◌, ◌∷◌, ◌≡◌, ◌≢◌}
 use Rattle.index.proofs.DeclarationStatements.{of_index}
 use Rattle.index.proofs.EntryChanges.{same_bytes, same_number}
 use Rattle.index.proofs.Following.{found_each}
@@ -7,26 +7,26 @@ use Rattle.index.specs.Entries.{IsDeclaredAs, IsEntryOf}
 use Rattle.std.proofs.lemmas.Bool.{false_from_ne_true}
 use Rattle.store.specs.Indexes.{index_fields_of, queried_document}
 use Rattle.tables.proofs.RowMaps.{mapped_some}
-use Rattle.tables.specs.Rows.{history_in}
+use Rattle.tables.specs.Rows.{history_in_rows}
 use Rattle.tables.specs.Schema.{revs_tree}
 
 -- ---- rows that are found
 
-own_index : (r : Row) → is_declaration_of (home_of r) (design_of r) (index_name_of r) r ≡ true
+own_index : (r : Row) → is_declaration_of (database_of_declaration r) (design_of r) (index_name_of_row r) r ≡ true
 own_index r =
-    and_from (int_eq (home_of r) (home_of r)) _ (same_number (home_of r) (home_of r) refl)
-    (and_from (bytes_eq (design_of r) (design_of r)) (bytes_eq (index_name_of r) (index_name_of r)) (same_bytes (design_of r) (design_of r) refl) (same_bytes (index_name_of r) (index_name_of r) refl))
+    and_from (int_eq (database_of_declaration r) (database_of_declaration r)) _ (same_number (database_of_declaration r) (database_of_declaration r) refl)
+    (and_from (bytes_eq (design_of r) (design_of r)) (bytes_eq (index_name_of_row r) (index_name_of_row r)) (same_bytes (design_of r) (design_of r) refl) (same_bytes (index_name_of_row r) (index_name_of_row r) refl))
 
 -- each row is the one that is found for its index
-pub index_found : (rows : List Row) → AreDeclarationRows rows → AllByRecursion (λ r. find (is_declaration_of (home_of r) (design_of r) (index_name_of r)) rows ≡ Some r) rows
+pub index_found : (rows : List Row) → AreDeclarationRows rows → AllByRecursion (λ r. find (is_declaration_of (database_of_declaration r) (design_of r) (index_name_of_row r)) rows ≡ Some r) rows
 index_found [] h = tt
 index_found (r ∷ rows) h = (
-  ap (λ b. cond b (Some r) (find (is_declaration_of (home_of r) (design_of r) (index_name_of r)) rows)) (own_index r),
-  all_both (λ s. home_of r ≡ home_of s → design_of r ≡ design_of s → index_name_of r ≢ index_name_of s) (λ s. find (is_declaration_of (home_of s) (design_of s) (index_name_of s)) rows ≡ Some s)
-      (λ s. find (is_declaration_of (home_of s) (design_of s) (index_name_of s)) (r ∷ rows) ≡ Some s)
+  ap (λ b. cond b (Some r) (find (is_declaration_of (database_of_declaration r) (design_of r) (index_name_of_row r)) rows)) (own_index r),
+  all_both (λ s. database_of_declaration r ≡ database_of_declaration s → design_of r ≡ design_of s → index_name_of_row r ≢ index_name_of_row s) (λ s. find (is_declaration_of (database_of_declaration s) (design_of s) (index_name_of_row s)) rows ≡ Some s)
+      (λ s. find (is_declaration_of (database_of_declaration s) (design_of s) (index_name_of_row s)) (r ∷ rows) ≡ Some s)
       (λ s away found.
-      let out = false_from_ne_true (is_declaration_of (home_of s) (design_of s) (index_name_of s) r) (λ here. let e = of_index (home_of s) (design_of s) (index_name_of s) r here in away e.0 e.1 e.2) in
-      ap (λ b. cond b (Some r) (find (is_declaration_of (home_of s) (design_of s) (index_name_of s)) rows)) out ∙ found) rows h.apart.0
+      let out = false_from_ne_true (is_declaration_of (database_of_declaration s) (design_of s) (index_name_of_row s) r) (λ here. let e = of_index (database_of_declaration s) (design_of s) (index_name_of_row s) r here in away e.0 e.1 e.2) in
+      ap (λ b. cond b (Some r) (find (is_declaration_of (database_of_declaration s) (design_of s) (index_name_of_row s)) rows)) out ∙ found) rows h.apart.0
       (index_found rows (record { each = h.each.1; rising = h.rising.1; apart = h.apart.1 })),
 )
 
@@ -36,10 +36,10 @@ key_is (Some found) k is = ap Some ((bytes_eq-Decides found k).0 is)
 
 module _ (declares : Declarations) (sees : Documents) (trees : Trees) (h : AreIndexed declares sees trees) where
   -- what is found by a number declares its index
-  declared_at_number : (n : ℤ) (d : Row) → declaration_at (trees decls_tree) n ≡ Some d → declares (home_of d) (design_of d) (index_name_of d) ≡ Some (fields_of d)
+  declared_at_number : (n : ℤ) (d : Row) → declaration_at (trees decls_tree) n ≡ Some d → declares (database_of_declaration d) (design_of d) (index_name_of_row d) ≡ Some (fields_of d)
   declared_at_number n d is =
-      let found = find_found (λ r. find (is_declaration_of (home_of r) (design_of r) (index_name_of r)) (trees decls_tree) ≡ Some r) (has_number n) (trees decls_tree) d (index_found (trees decls_tree) h.decls) is in
-      sym (h.declared (home_of d) (design_of d) (index_name_of d)) ∙ ap (option_map fields_of) found.0
+      let found = find_found (λ r. find (is_declaration_of (database_of_declaration r) (design_of r) (index_name_of_row r)) (trees decls_tree) ≡ Some r) (has_number n) (trees decls_tree) d (index_found (trees decls_tree) h.decls) is in
+      sym (h.declared (database_of_declaration d) (design_of d) (index_name_of_row d)) ∙ ap (option_map fields_of) found.0
 
   pub there : (n : ℤ) (k id : List ℕ) → has_entry (trees entries_tree) n k id ≡ true → IsEntryOf declares sees trees n k id
   there n k id is = go (declaration_at (trees decls_tree) n) refl (sym (h.entries.exact n k id) ∙ is)
@@ -47,13 +47,13 @@ module _ (declares : Declarations) (sees : Documents) (trees : Trees) (h : AreIn
       go : (o : Option Row) → declaration_at (trees decls_tree) n ≡ o → is_due_by sees o k id ≡ true → IsEntryOf declares sees trees n k id
       go None found due = absurd (cc)
       go (Some d) found due = record {
-        db = home_of d;
+        db = database_of_declaration d;
         design = design_of d;
-        name = index_name_of d;
+        name = index_name_of_row d;
         fields = fields_of d;
         declared = declared_at_number n d found;
         row = record { row = d; found = found; home = refl; design_is = refl; name_is = refl; fields_are = refl };
-        key = key_is (key_if_seen (fields_of d) (sees (home_of d) id)) k due;
+        key = key_is (key_if_seen (fields_of d) (sees (database_of_declaration d) id)) k due;
       }
 
   pub whole : (db : ℤ) (design name : List ℕ) (fields : List (List ℕ)) → declares db design name ≡ Some fields
@@ -83,7 +83,7 @@ module _ (declares : Declarations) (sees : Documents) (trees : Trees) (h : AreIn
     where
       due : (o : Option Row) (k i : List ℕ) → is_due_by sees o k i ≡ is_due_by seen o k i
       due None k i = refl
-      due (Some d) k i = ap (λ v. is_key (key_if_seen (fields_of d) v) k) (same (home_of d) i)
+      due (Some d) k i = ap (λ v. is_key (key_if_seen (fields_of d) v) k) (same (database_of_declaration d) i)
 
   pub unseen : (seen : Documents) (db : ℤ) → ((design name : List ℕ) → declares db design name ≡ None) → ((d : ℤ) (id : List ℕ) → d ≢ db → sees d id ≡ seen d id) → AreIndexed declares seen trees
   unseen seen db none same = record {
@@ -96,16 +96,16 @@ module _ (declares : Declarations) (sees : Documents) (trees : Trees) (h : AreIn
       due m k i None found = refl
       due m k i (Some d) found =
           ap (λ v. is_key (key_if_seen (fields_of d) v) k)
-          (same (home_of d) i
-          (λ home. let both = sym (none (design_of d) (index_name_of d)) ∙ sym (ap (λ x. declares x (design_of d) (index_name_of d)) home) ∙ declared_at_number m d found in absurd (cc)))
+          (same (database_of_declaration d) i
+          (λ home. let both = sym (none (design_of d) (index_name_of_row d)) ∙ sym (ap (λ x. declares x (design_of d) (index_name_of_row d)) home) ∙ declared_at_number m d found in absurd (cc)))
 
 pub same_rows : (a b : Trees) → b revs_tree ≡ a revs_tree → b decls_tree ≡ a decls_tree → b entries_tree ≡ a entries_tree → IsIndexed a → IsIndexed b
 same_rows a b revs decls entries h = record {
   decls = subst AreDeclarationRows (sym decls) h.decls;
-  declared = λ db design name. ap (λ rows. declared_by rows db design name) decls ∙ h.declared db design name ∙ sym (ap (λ rows. index_fields_of design (history_in rows db design) name) revs);
+  declared = λ db design name. ap (λ rows. declared_by rows db design name) decls ∙ h.declared db design name ∙ sym (ap (λ rows. index_fields_of design (history_in_rows rows db design) name) revs);
   entries = record {
     laid = subst AreEntryRows (sym entries) h.entries.laid;
     exact = λ m k i.
-        ap (λ rows. has_entry rows m k i) entries ∙ h.entries.exact m k i ∙ (λ j. is_due (λ db id. queried_document id (history_in (sym revs j) db id)) (sym decls j) m k i);
+        ap (λ rows. has_entry rows m k i) entries ∙ h.entries.exact m k i ∙ (λ j. is_due (λ db id. queried_document id (history_in_rows (sym revs j) db id)) (sym decls j) m k i);
   };
 }

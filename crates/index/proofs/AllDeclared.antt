@@ -1,5 +1,5 @@
 -- The names that the rows have and those that the body declares are all that matter.
-use Rattle.index.proofs.Common.{Bool, List, None, Option, Row, Some, [], and_from, ap, bytes_eq, cond, design_of, false, filter, find, home_of, if◌then◌else◌, int_eq, is_declaration_of, list_any, map, option_map, refl, shown_declaration, sym, true, ℕ, ℤ, ◌||◌, ◌∙◌, ◌∷◌, ◌≡◌, index_name_of}
+use Rattle.index.proofs.Common.{Bool, List, None, Option, Row, Some, [], and_from, ap, bytes_eq, cond, design_of, false, filter, find, database_of_declaration, if◌then◌else◌, int_eq, is_declaration_of, list_any, map, option_map, refl, shown_declaration, sym, true, ℕ, ℤ, ◌||◌, ◌∙◌, ◌∷◌, ◌≡◌, index_name_of_row}
 use Rattle.couch_json.specs.Value.{Members, Value, member, member_at, member_of, no_members, object}
 use Rattle.index.proofs.DeclarationStatements.{of_index}
 use Rattle.index.proofs.EntryChanges.{same_bytes, same_number}
@@ -11,7 +11,7 @@ use Rattle.std.proofs.lemmas.Map.Text.{is_eq-slice_cmp}
 use Rattle.std.specs.Cmp.Lexicographic.{slice_cmp}
 use Rattle.std.specs.Ordering.{match_ordering, nat_cmp}
 use Rattle.store.specs.Indexes.{fields_in, indexes_if}
-use Rattle.tree.specs.ShownDocument.{members_in}
+use Rattle.tree.specs.ShownDocument.{body_members}
 
 -- what is not among the names is no member
 not_member : (n : List ℕ) (ms : Members) → list_any (bytes_eq n) (names_of ms) ≡ false → member_at n ms ≡ None
@@ -25,8 +25,8 @@ not_member n (member name v ms) out = go (slice_cmp nat_cmp n name) (is_eq-slice
     go Greater same false is out more = more out
     go Equal same false is out more = absurd (let e = same ∙ is in cc)
 
-not_in_object : (n : List ℕ) (w : Value) (b : Bool) → list_any (bytes_eq n) (names_of (members_in w)) ≡ false → member_of (object (if b then members_in w else no_members)) n ≡ None
-not_in_object n w true out = not_member n (members_in w) out
+not_in_object : (n : List ℕ) (w : Value) (b : Bool) → list_any (bytes_eq n) (names_of (body_members w)) ≡ false → member_of (object (if b then body_members w else no_members)) n ≡ None
+not_in_object n w true out = not_member n (body_members w) out
 not_in_object n w false out = refl
 
 -- a body declares no index of another name
@@ -50,13 +50,13 @@ none_stored d db o design n (r ∷ rows) same named out = go (is_of_design db de
         at : (b : Bool) → is_declaration_of d o n r ≡ b → cond b (Some r) (find (is_declaration_of d o n) rows) ≡ None
         at true is =
             let it = of_index d o n r is in
-            let here : is_of_design db design r ≡ true = and_from (int_eq (home_of r) db) _ (same_number (home_of r) db (it.0 ∙ same)) (same_bytes (design_of r) design (it.1 ∙ named)) in
+            let here : is_of_design db design r ≡ true = and_from (int_eq (database_of_declaration r) db) _ (same_number (database_of_declaration r) db (it.0 ∙ same)) (same_bytes (design_of r) design (it.1 ∙ named)) in
             absurd (cc)
         at false is = more out
-    go true own out more = at (is_declaration_of d o n r) refl (bytes_eq n (index_name_of r)) refl out
+    go true own out more = at (is_declaration_of d o n r) refl (bytes_eq n (index_name_of_row r)) refl out
       where
-        at : (b : Bool) → is_declaration_of d o n r ≡ b → (e : Bool) → bytes_eq n (index_name_of r) ≡ e → (e || list_any (bytes_eq n) (map shown_name (map shown_declaration (filter (is_of_design db design) rows)))) ≡ false
+        at : (b : Bool) → is_declaration_of d o n r ≡ b → (e : Bool) → bytes_eq n (index_name_of_row r) ≡ e → (e || list_any (bytes_eq n) (map shown_name (map shown_declaration (filter (is_of_design db design) rows)))) ≡ false
             → cond b (Some r) (find (is_declaration_of d o n) rows) ≡ None
-        at true is e has out = absurd (let it = same_bytes n (index_name_of r) (sym (of_index d o n r is).2) in cc)
+        at true is e has out = absurd (let it = same_bytes n (index_name_of_row r) (sym (of_index d o n r is).2) in cc)
         at false is true has out = absurd (cc)
         at false is false has out = more out

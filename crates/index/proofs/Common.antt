@@ -5,7 +5,7 @@ pub use Rattle.index.specs.Calls.{ChangesIndexes, ChangesOnly, ClearsAll, Clears
 pub use Rattle.index.specs.Indexed.{AreEntriesOf, AreIndexed, Entries, IsIndexed, is_due, is_due_by, is_due_while, with_key, without_numbers}
 pub use Rattle.index.specs.Layout.{AreDeclarationRows, AreEntryRows, HasIndexRows, IsDeclarationRow, IsEntryRow}
 pub use Rattle.index.specs.Meaning.{Declarations, Documents, declares_in, is_key, key_at, key_if_seen, sees_in, with_declared, with_seen, without_declared}
-pub use Rattle.index.specs.Rows.{declaration_at, declaration_cells, declaration_of, declaration_row, declared_by, design_of, entry_cells, entry_id, entry_row, fields_in_cell, fields_of, fields_text, has_entry, home_of, index_name_of, is_at_home, is_declaration_of, is_entry_in, is_entry_of, key_of, shown_declaration, shown_entry}
+pub use Rattle.index.specs.Rows.{declaration_at, declaration_cells, declaration_of, declaration_row, declared_by, design_of, entry_cells, entry_id, entry_row, fields_in_cell, fields_of, fields_text, has_entry, database_of_declaration, index_name_of_row, is_at_home, is_declaration_of, is_entry_in, is_entry_of, key_of, shown_declaration, shown_entry}
 pub use Rattle.index.specs.Shown.{Declared, IsPathList, IsShownDeclaration, SpellsPaths, declared, declared_at, declared_shown}
 pub use Rattle.index.specs.declared.declaration.Declaration.{Declaration}
 pub use Rattle.index.specs.declared.fault.IndexFault.{IndexFault}

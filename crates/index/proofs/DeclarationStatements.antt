@@ -1,5 +1,5 @@
 -- What the statements on declarations mean.
-use Rattle.index.proofs.Common.{AllByRecursion, AreDeclarationRows, AreNumbered, Binary, Blob, Delete, Eq, HasIndexRows, HasOneAtMost, IfOk, Insert, Int, IsCommand, IsDeclarationRow, Key, Less-from_lt, List, Null, Result, Row, Select, Shown, State, Term, Text, Values, [], all_weaker, and_parts, ap, ap₂, ascending-filter, ascending_weaker, by_number, bytes_eq, bytes_eq-Decides, cast_int, cast_null, cast_row, codes, col, column, compares, declaration_cells, decls_table, decls_tree, design_of, everything, false, filter, finds_one, holds, home_of, index_name_of, int_by, is_at_home, is_declaration_of, is_eq, last_term, list_all, lists, lit, map, number_of, program_on, refl, rowid, same_blob, same_int, schema, shown_declaration, subst, sym, then-Equal, then_term, true, understood, value_cmp, value_cmp-Int, ℕ, ℤ, ◌<ℤ◌, ◌∙◌, ◌∷◌, ◌≡◌, ◌≢◌}
+use Rattle.index.proofs.Common.{AllByRecursion, AreDeclarationRows, AreNumbered, Binary, Blob, Delete, Eq, HasIndexRows, HasOneAtMost, IfOk, Insert, Int, IsCommand, IsDeclarationRow, Key, Less-from_lt, List, Null, Result, Row, Select, Shown, State, Term, Text, Values, [], all_weaker, and_parts, ap, ap₂, ascending-filter, ascending_weaker, by_number, bytes_eq, bytes_eq-Decides, cast_int, cast_null, cast_row, codes, col, column, compares, declaration_cells, decls_table, decls_tree, design_of, everything, false, filter, finds_one, holds, database_of_declaration, index_name_of_row, int_by, is_at_home, is_declaration_of, is_eq, last_term, list_all, lists, lit, map, number_of, program_on, refl, rowid, same_blob, same_int, schema, shown_declaration, subst, sym, then-Equal, then_term, true, understood, value_cmp, value_cmp-Int, ℕ, ℤ, ◌<ℤ◌, ◌∙◌, ◌∷◌, ◌≡◌, ◌≢◌}
 use Rattle.tables.proofs.Sorted.{by_their_numbers, sorted_already}
 
 abbrev pub by_home : List Term
@@ -13,26 +13,26 @@ numbered_declarations rows h = record { numbers = all_weaker IsDeclarationRow (�
 
 pub tests_home : (db : ℤ) (rows : List Row) → AreDeclarationRows rows → AllByRecursion (λ r. list_all (holds ((Int db ∷ []) ∷ r ∷ [])) by_home ≡ is_at_home db r) rows
 tests_home db rows h =
-    all_weaker IsDeclarationRow (λ r. list_all (holds ((Int db ∷ []) ∷ r ∷ [])) by_home ≡ is_at_home db r) (λ r k. last_term (int_by Eq (column r 2) (home_of r) db (ap (λ x. column x 2) k.is))) rows h.each
+    all_weaker IsDeclarationRow (λ r. list_all (holds ((Int db ∷ []) ∷ r ∷ [])) by_home ≡ is_at_home db r) (λ r k. last_term (int_by Eq (column r 2) (database_of_declaration r) db (ap (λ x. column x 2) k.is))) rows h.each
 
 pub tests_index : (db : ℤ) (design name : List ℕ) (rows : List Row) → AreDeclarationRows rows
     → AllByRecursion (λ r. list_all (holds ((Int db ∷ Blob design ∷ Blob name ∷ []) ∷ r ∷ [])) by_index ≡ is_declaration_of db design name r) rows
 tests_index db design name rows h =
     all_weaker IsDeclarationRow (λ r. list_all (holds ((Int db ∷ Blob design ∷ Blob name ∷ []) ∷ r ∷ [])) by_index ≡ is_declaration_of db design name r)
-    (λ r k. then_term (int_by Eq (column r 2) (home_of r) db (ap (λ x. column x 2) k.is))
-    (then_term (same_blob (column r 3) (design_of r) design (ap (λ x. column x 3) k.is)) (last_term (same_blob (column r 4) (index_name_of r) name (ap (λ x. column x 4) k.is))))) rows h.each
+    (λ r k. then_term (int_by Eq (column r 2) (database_of_declaration r) db (ap (λ x. column x 2) k.is))
+    (then_term (same_blob (column r 3) (design_of r) design (ap (λ x. column x 3) k.is)) (last_term (same_blob (column r 4) (index_name_of_row r) name (ap (λ x. column x 4) k.is))))) rows h.each
 
 -- a row of an index is of this database, this design document and this name
-pub of_index : (db : ℤ) (design name : List ℕ) (r : Row) → is_declaration_of db design name r ≡ true → (home_of r ≡ db) × (design_of r ≡ design) × (index_name_of r ≡ name)
+pub of_index : (db : ℤ) (design name : List ℕ) (r : Row) → is_declaration_of db design name r ≡ true → (database_of_declaration r ≡ db) × (design_of r ≡ design) × (index_name_of_row r ≡ name)
 of_index db design name r is =
     let parts = and_parts (is_at_home db r) _ is in
     let more = and_parts (bytes_eq (design_of r) design) _ parts.1 in
-    (same_int (home_of r) db parts.0, (bytes_eq-Decides (design_of r) design).0 more.0, (bytes_eq-Decides (index_name_of r) name).0 more.1)
+    (same_int (database_of_declaration r) db parts.0, (bytes_eq-Decides (design_of r) design).0 more.0, (bytes_eq-Decides (index_name_of_row r) name).0 more.1)
 
 -- at most one row is of an index
 pub one_of_index : (rows : List Row) → AreDeclarationRows rows → (db : ℤ) (design name : List ℕ) → HasOneAtMost (is_declaration_of db design name) rows
 one_of_index rows h db design name =
-    ascending_weaker (λ a b. home_of a ≡ home_of b → design_of a ≡ design_of b → index_name_of a ≢ index_name_of b) (λ a b. is_declaration_of db design name a ≡ true → is_declaration_of db design name b ≡ true → ⊥)
+    ascending_weaker (λ a b. database_of_declaration a ≡ database_of_declaration b → design_of a ≡ design_of b → index_name_of_row a ≢ index_name_of_row b) (λ a b. is_declaration_of db design name a ≡ true → is_declaration_of db design name b ≡ true → ⊥)
     (λ a b apart p q. let x = of_index db design name a p in let y = of_index db design name b q in apart (x.0 ∙ sym y.0) (x.1 ∙ sym y.1) (x.2 ∙ sym y.2)) rows h.apart
 
 -- ---- the statements

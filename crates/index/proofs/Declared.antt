@@ -1,5 +1,5 @@
 -- What one declaration more makes of the index rows.
-use Rattle.index.proofs.Common.{AllByRecursion, AreDeclarationRows, AreEntriesOf, AreEntryRows, Bool, Changes, ChangesIndexes, Database, Declarations, Declared, Documents, HasEntries, HasIndexRows, Int, IsDeclarationRow, List, None, Option, Row, Some, Text, [], all-append, all_weaker, and_from, and_parts, ap, arith, ascending-append, bytes_eq, bytes_eq-Decides, cases_Bool, cond, declaration_at, declaration_cells, declaration_row, declared_at, declared_by, decls_tree, design_of, entries_tree, false, fields_in_cell, fields_of, fields_text, find, has_number, home_of, if◌then◌else◌, index_name_of, inl, inr, int_eq, ints, is_declaration_of, is_due, is_due_by, is_key, key_if_seen, list_any, list_any-append, map-append, next_number, not, number_of, numbered-with_cells, option_map, refl, same_int, sees_in, subst, sym, true, with_cells, without_numbers, ⊤, ℕ, ℤ, ◌&&◌, ◌++◌, ◌<ℤ◌, ◌||◌, ◌∙◌, ◌∷◌, ◌≡◌, ◌≢◌}
+use Rattle.index.proofs.Common.{AllByRecursion, AreDeclarationRows, AreEntriesOf, AreEntryRows, Bool, Changes, ChangesIndexes, Database, Declarations, Declared, Documents, HasEntries, HasIndexRows, Int, IsDeclarationRow, List, None, Option, Row, Some, Text, [], all-append, all_weaker, and_from, and_parts, ap, arith, ascending-append, bytes_eq, bytes_eq-Decides, cases_Bool, cond, declaration_at, declaration_cells, declaration_row, declared_at, declared_by, decls_tree, design_of, entries_tree, false, fields_in_cell, fields_of, fields_text, find, has_number, database_of_declaration, if◌then◌else◌, index_name_of_row, inl, inr, int_eq, ints, is_declaration_of, is_due, is_due_by, is_key, key_if_seen, list_any, list_any-append, map-append, next_number, not, number_of, numbered-with_cells, option_map, refl, same_int, sees_in, subst, sym, true, with_cells, without_numbers, ⊤, ℕ, ℤ, ◌&&◌, ◌++◌, ◌<ℤ◌, ◌||◌, ◌∙◌, ◌∷◌, ◌≡◌, ◌≢◌}
 use Rattle.couch_json.specs.Value.{Items, array, item, no_items}
 use Rattle.couch_json.specs.FieldPath.{is_field_path}
 use Rattle.couch_json.proofs.ReadingBack.{reading-canonical}
@@ -20,7 +20,7 @@ use Rattle.store.specs.Indexes.{paths_in}
 use Rattle.tables.proofs.Kept.{below_next}
 use Rattle.tables.proofs.Rests.{leaves, store_of}
 use Rattle.tables.specs.Layout.{IsStore}
-use Rattle.tables.specs.Rows.{history_in, value_or_null}
+use Rattle.tables.specs.Rows.{history_in_rows, read_or_null}
 use Rattle.couch_json.specs.Parts.{items_in, items_or_none}
 
 -- these elements, and then those
@@ -37,7 +37,7 @@ paths_back (path ∷ fields) = ap (λ l. path ∷ l) (paths_back fields)
 pub fields_back : (fields : List (List ℕ)) → AllByRecursion (λ path. (is_field_path path ≡ true) × IsUtf8 path) fields → fields_in_cell (Text (fields_text fields)) ≡ fields
 fields_back fields all =
     let none = flat fields in
-    ap (λ r. paths_in (items_or_none (items_in (value_or_null r)))) (reading-canonical (array (path_items fields)) (lawful_paths fields all) (omega (arith, none))) ∙ paths_back fields
+    ap (λ r. paths_in (items_or_none (items_in (read_or_null r)))) (reading-canonical (array (path_items fields)) (lawful_paths fields all) (omega (arith, none))) ∙ paths_back fields
 
 -- ---- one row more
 
@@ -106,9 +106,9 @@ module _ (rows : List Row) (laid : AreDeclarationRows rows) (db : ℤ) (design n
         tt,
       );
       rising = (numbered-with_cells rows (declaration_cells db design name (fields_text fields)) (numbered_declarations rows laid)).rising;
-      apart = ascending-append (λ a b. home_of a ≡ home_of b → design_of a ≡ design_of b → index_name_of a ≢ index_name_of b) rows _ laid.apart (tt, tt)
+      apart = ascending-append (λ a b. database_of_declaration a ≡ database_of_declaration b → design_of a ≡ design_of b → index_name_of_row a ≢ index_name_of_row b) rows _ laid.apart (tt, tt)
           (all_weaker (λ r. is_declaration_of db design name r ≡ false) _
-          (λ r out. (λ a b c. absurd (let here = and_from (int_eq (home_of r) db) _ (same_number _ _ a) (and_from (bytes_eq (design_of r) design) (bytes_eq (index_name_of r) name) (same_bytes _ _ b) (same_bytes _ _ c)) in cc), tt)) rows
+          (λ r out. (λ a b c. absurd (let here = and_from (int_eq (database_of_declaration r) db) _ (same_number _ _ a) (and_from (bytes_eq (design_of r) design) (bytes_eq (index_name_of_row r) name) (same_bytes _ _ b) (same_bytes _ _ c)) in cc), tt)) rows
           (all_fail (is_declaration_of db design name) rows no_index));
     }
 
@@ -286,7 +286,7 @@ module _ (declares : Declarations) (sees : Documents) (db : ℤ) (design name : 
           entries = subst (λ l. AreEntriesOf (without_numbers (is_due sees l) (numbers_of (fresh ++ one ∷ []))) (b.trees entries_tree)) (sym change.rows)
               (subst (AreEntriesOf (without_numbers (is_due sees all) (numbers_of (fresh ++ one ∷ [])))) (sym entries_stay)
               (entries_as (without_numbers (is_due sees rows) (numbers_of fresh)) (without_numbers (is_due sees all) (numbers_of (fresh ++ one ∷ []))) (a.trees entries_tree) still_without fit.entries));
-          seen = λ id. fit.seen id ∙ sym (ap (λ l. queried_document id (history_in l db id)) revs);
+          seen = λ id. fit.seen id ∙ sym (ap (λ l. queried_document id (history_in_rows l db id)) revs);
         }
 
     pub declared_only : ChangesIndexes a b

@@ -21,8 +21,8 @@ use Rattle.tables.proofs.ListingOrders.{ascending_within}
 use Rattle.tables.proofs.RowMaps.{text_exact, untied}
 use Rattle.tables.proofs.Sorted.{all_sorted}
 use Rattle.tables.proofs.Tables.{docs_keyed, of_these}
-use Rattle.tables.specs.Layout.{IsDocumentRow, IsLaid}
-use Rattle.tables.specs.Rows.{by_id, db_of, history_in, id_of, is_in, is_of, listed_document}
+use Rattle.tables.specs.Layout.{IsDocumentRow, IsWellFormed}
+use Rattle.tables.specs.Rows.{by_id, db_of, history_in_rows, id_of, is_row_of_database, is_row_of_document, listed_document}
 use Rattle.tables.specs.Schema.{revs_tree}
 use Rattle.tree.specs.DocumentId.{is_design_id, is_document_id}
 
@@ -60,8 +60,8 @@ tests_bounds db low high rest rows keyed =
     (λ x k. then_term (int_by Eq (column x 1) (db_of x) db k.db) (then_term (blob_by Ge (column x 2) (id_of x) low k.id) (last_term (blob_by Lt (column x 2) (id_of x) high k.id)))) rows keyed
 
 module _ {X E : Type 0} (old new : State) (is : IsStore old.now) (db : ℤ) (low high : List ℕ) (r : Result X E) (items : X → List Row) where
-  mine : (x : Row) → is_in_range db low high x ≡ true → is_in db x ≡ true
-  mine x k = (and_parts (is_in db x) _ k).0
+  mine : (x : Row) → is_in_range db low high x ≡ true → is_row_of_database db x ≡ true
+  mine x k = (and_parts (is_row_of_database db x) _ k).0
 
   agree : (a b : Row) → IsOne a → IsOne b → ordering_then (value_cmp (column a 2) (column b 2)) Equal ≡ by_id a b
   agree a b k l = blobs_agree (column a 2) (column b 2) (id_of a) (id_of b) (ap (λ x. column x 2) k) (ap (λ x. column x 2) l)
@@ -172,17 +172,17 @@ neither_design (b ∷ c ∷ more) named low high = by (nat_cmp b 95) refl (nat_c
 -- ---- the rows that are listed
 
 -- a document of this id has a row of the kind, where it has one at all
-any_of_kind : (db : ℤ) (i : List ℕ) (p : Row → Bool) → ((r : Row) → is_of db i r ≡ true → p r ≡ true) → (rows : List Row) → list_any (bytes_eq i) (map id_of (sort_by by_id (filter p rows))) ≡ false → list_any (is_of db i) rows ≡ false
+any_of_kind : (db : ℤ) (i : List ℕ) (p : Row → Bool) → ((r : Row) → is_row_of_document db i r ≡ true → p r ≡ true) → (rows : List Row) → list_any (bytes_eq i) (map id_of (sort_by by_id (filter p rows))) ≡ false → list_any (is_row_of_document db i) rows ≡ false
 any_of_kind db i p kind rows out = within rows (sym (any_in_order i (filter p rows)) ∙ out)
   where
-    within : (rows : List Row) → list_any (λ r. bytes_eq i (id_of r)) (filter p rows) ≡ false → list_any (is_of db i) rows ≡ false
+    within : (rows : List Row) → list_any (λ r. bytes_eq i (id_of r)) (filter p rows) ≡ false → list_any (is_row_of_document db i) rows ≡ false
     within [] out = refl
-    within (r ∷ rows) out = by (is_of db i r) refl (p r) refl out (within rows)
+    within (r ∷ rows) out = by (is_row_of_document db i r) refl (p r) refl out (within rows)
       where
-        by : (x : Bool) → is_of db i r ≡ x → (y : Bool) → p r ≡ y → list_any (λ s. bytes_eq i (id_of s)) (cond y (r ∷ filter p rows) (filter p rows)) ≡ false
-            → (list_any (λ s. bytes_eq i (id_of s)) (filter p rows) ≡ false → list_any (is_of db i) rows ≡ false) → (x || list_any (is_of db i) rows) ≡ false
+        by : (x : Bool) → is_row_of_document db i r ≡ x → (y : Bool) → p r ≡ y → list_any (λ s. bytes_eq i (id_of s)) (cond y (r ∷ filter p rows) (filter p rows)) ≡ false
+            → (list_any (λ s. bytes_eq i (id_of s)) (filter p rows) ≡ false → list_any (is_row_of_document db i) rows ≡ false) → (x || list_any (is_row_of_document db i) rows) ≡ false
         by true own true at out more =
-            absurd (let named = bytes_eq-sym i (id_of r) ∙ (and_parts (is_in db r) _ own).1 in let here = sym (ap (λ b. b || list_any (λ s. bytes_eq i (id_of s)) (filter p rows)) named) ∙ out in cc)
+            absurd (let named = bytes_eq-sym i (id_of r) ∙ (and_parts (is_row_of_database db r) _ own).1 in let here = sym (ap (λ b. b || list_any (λ s. bytes_eq i (id_of s)) (filter p rows)) named) ∙ out in cc)
         by true own false at out more = absurd (let here = sym (kind r own) ∙ at in cc)
         by false own true at out more = more (last_of (bytes_eq i (id_of r)) out)
           where
@@ -192,24 +192,24 @@ any_of_kind db i p kind rows out = within rows (sym (any_in_order i (filter p ro
         by false own false at out more = more out
 
 -- a document that has a row has a text for its id, which may name a document
-named_there : (trees : Trees) (db : ℤ) (i : List ℕ) (rows : List Row) → AllByRecursion (IsDocumentRow trees) rows → list_any (is_of db i) rows ≡ true → (is_document_id i ≡ true) × IsUtf8 i
+named_there : (trees : Trees) (db : ℤ) (i : List ℕ) (rows : List Row) → AllByRecursion (IsDocumentRow trees) rows → list_any (is_row_of_document db i) rows ≡ true → (is_document_id i ≡ true) × IsUtf8 i
 named_there trees db i [] all there = absurd (cc)
-named_there trees db i (r ∷ rows) all there = by (named_there trees db i rows all.1) (is_of db i r) refl there
+named_there trees db i (r ∷ rows) all there = by (named_there trees db i rows all.1) (is_row_of_document db i r) refl there
   where
-    by : (list_any (is_of db i) rows ≡ true → (is_document_id i ≡ true) × IsUtf8 i) → (x : Bool) → is_of db i r ≡ x → (x || list_any (is_of db i) rows) ≡ true → (is_document_id i ≡ true) × IsUtf8 i
+    by : (list_any (is_row_of_document db i) rows ≡ true → (is_document_id i ≡ true) × IsUtf8 i) → (x : Bool) → is_row_of_document db i r ≡ x → (x || list_any (is_row_of_document db i) rows) ≡ true → (is_document_id i ≡ true) × IsUtf8 i
     by rest true own there = let id : i ≡ id_of r = sym (of_these db i r own).1 in (ap is_document_id id ∙ all.0.named, subst IsUtf8 (sym id) all.0.text)
     by rest false own there = rest there
 
 -- of a document whose id lies in neither range nothing is seen
-pub outside_unseen : (trees : Trees) → IsLaid trees → (db : ℤ) (i : List ℕ) → is_between [] (codes "_d") i ≡ false → is_between (codes "_e") (255 ∷ []) i ≡ false → sees_in trees db i ≡ None
-outside_unseen trees l db i low high = by (list_any (is_of db i) (trees docs_tree)) refl
+pub outside_unseen : (trees : Trees) → IsWellFormed trees → (db : ℤ) (i : List ℕ) → is_between [] (codes "_d") i ≡ false → is_between (codes "_e") (255 ∷ []) i ≡ false → sees_in trees db i ≡ None
+outside_unseen trees l db i low high = by (list_any (is_row_of_document db i) (trees docs_tree)) refl
   where
-    by : (b : Bool) → list_any (is_of db i) (trees docs_tree) ≡ b → sees_in trees db i ≡ None
+    by : (b : Bool) → list_any (is_row_of_document db i) (trees docs_tree) ≡ b → sees_in trees db i ≡ None
     by false none = unwritten_unseen trees l db i none
     by true there =
         let it = named_there trees db i (trees docs_tree) l.docs there in
         let is : is_design_id i ≡ true = neither_design i it.0 (sym (ap (λ b. b && is_low i) (none_below i)) ∙ low) (sym (and_true (is_high i)) ∙ ap (λ b. is_high i && b) (sym (above_texts i it.1)) ∙ high) in
-        ap (λ b. if b then None else shown_by i (history_in (trees revs_tree) db i) (live_rev (history_in (trees revs_tree) db i))) is
+        ap (λ b. if b then None else shown_by i (history_in_rows (trees revs_tree) db i) (live_rev (history_in_rows (trees revs_tree) db i))) is
       where
         and_true : (b : Bool) → (b && true) ≡ b
         and_true true = refl
@@ -223,7 +223,7 @@ ranges_apart i low = by (is_between (codes "_e") (255 ∷ []) i) refl
     by false out = out
     by true high = absurd (not_both i (and_parts (is_le (slice_cmp nat_cmp [] i)) (is_low i) low).1 (and_parts (is_high i) (is_lt (slice_cmp nat_cmp i (255 ∷ []))) high).0)
 
-module _ (trees : Trees) (l : IsLaid trees) (db : ℤ) (low high : List ℕ) where
+module _ (trees : Trees) (l : IsWellFormed trees) (db : ℤ) (low high : List ℕ) where
   abbrev found : List Row
   found = filter (is_in_range db low high) (trees docs_tree)
 
@@ -245,7 +245,7 @@ module _ (trees : Trees) (l : IsLaid trees) (db : ℤ) (low high : List ℕ) whe
       ascending-sorted (λ c d. id_of c ≢ id_of d) (λ c d away same. away (sym same)) by_id found
       (ascending_within (is_in_range db low high) (λ c d. id_of c ≢ id_of d) (trees docs_tree)
       (ascending_weaker (λ c d. db_of c ≡ db_of d → id_of c ≢ id_of d) (λ c d. is_in_range db low high c ≡ true → is_in_range db low high d ≡ true → id_of c ≢ id_of d)
-      (λ c d away x y. away (same_db db c d (and_parts (is_in db c) _ x).0 (and_parts (is_in db d) _ y).0)) (trees docs_tree) l.ids_apart))
+      (λ c d away x y. away (same_db db c d (and_parts (is_row_of_database db c) _ x).0 (and_parts (is_row_of_database db d) _ y).0)) (trees docs_tree) l.ids_apart))
 
   -- a document that is listed has its id in the range
   pub listed_within : (i : List ℕ) → list_any (bytes_eq i) (map id_of (documents_between db low high (trees docs_tree))) ≡ true → is_between low high i ≡ true
@@ -257,7 +257,7 @@ module _ (trees : Trees) (l : IsLaid trees) (db : ℤ) (low high : List ℕ) whe
         where
           here : (b : Bool) → bytes_eq i (id_of r) ≡ b → is_in_range db low high r ≡ true → (b || list_any (λ s. bytes_eq i (id_of s)) (filter (is_in_range db low high) rows)) ≡ true
               → (list_any (λ s. bytes_eq i (id_of s)) (filter (is_in_range db low high) rows) ≡ true → is_between low high i ≡ true) → is_between low high i ≡ true
-          here true own is there more = ap (is_between low high) ((bytes_eq-Decides i (id_of r)).0 own) ∙ (and_parts (is_in db r) _ is).1
+          here true own is there more = ap (is_between low high) ((bytes_eq-Decides i (id_of r)).0 own) ∙ (and_parts (is_row_of_database db r) _ is).1
           here false own is there more = more there
 
           by : (b : Bool) → is_in_range db low high r ≡ b → list_any (λ s. bytes_eq i (id_of s)) (cond b (r ∷ filter (is_in_range db low high) rows) (filter (is_in_range db low high) rows)) ≡ true
@@ -270,4 +270,4 @@ module _ (trees : Trees) (l : IsLaid trees) (db : ℤ) (low high : List ℕ) whe
   unlisted_unseen i within out =
       unwritten_unseen trees l db i
       (any_of_kind db i (is_in_range db low high)
-      (λ r own. let it = and_parts (is_in db r) _ own in and_from (is_in db r) _ it.0 (ap (is_between low high) ((bytes_eq-Decides (id_of r) i).0 it.1) ∙ within)) (trees docs_tree) out)
+      (λ r own. let it = and_parts (is_row_of_database db r) _ own in and_from (is_row_of_database db r) _ it.0 (ap (is_between low high) ((bytes_eq-Decides (id_of r) i).0 it.1) ∙ within)) (trees docs_tree) out)

@@ -1,5 +1,5 @@
 -- What the statement on the declarations of a design document means.
-use Rattle.index.proofs.Common.{AllByRecursion, AreDeclarationRows, Binary, Blob, Eq, HasIndexRows, IfOk, Int, IsCommand, IsDeclarationRow, Key, Less-from_lt, List, Result, Row, Select, Shown, State, Term, [], all_weaker, ap, ap₂, ascending-filter, codes, col, column, compares, decls_tree, design_of, everything, false, filter, holds, home_of, int_by, is_eq, last_term, list_all, lists, map, number_of, program_on, refl, rowid, same_blob, schema, shown_declaration, subst, then-Equal, then_term, understood, value_cmp, value_cmp-Int, ℕ, ℤ, ◌<ℤ◌, ◌∙◌, ◌∷◌, ◌≡◌}
+use Rattle.index.proofs.Common.{AllByRecursion, AreDeclarationRows, Binary, Blob, Eq, HasIndexRows, IfOk, Int, IsCommand, IsDeclarationRow, Key, Less-from_lt, List, Result, Row, Select, Shown, State, Term, [], all_weaker, ap, ap₂, ascending-filter, codes, col, column, compares, decls_tree, design_of, everything, false, filter, holds, database_of_declaration, int_by, is_eq, last_term, list_all, lists, map, number_of, program_on, refl, rowid, same_blob, schema, shown_declaration, subst, then-Equal, then_term, understood, value_cmp, value_cmp-Int, ℕ, ℤ, ◌<ℤ◌, ◌∙◌, ◌∷◌, ◌≡◌}
 use Rattle.index.specs.Rebuilding.{is_of_design}
 use Rattle.tables.proofs.Sorted.{by_their_numbers, sorted_already}
 
@@ -9,7 +9,7 @@ by_design = compares Eq 2 0 ∷ compares Eq 3 1 ∷ []
 tests_design : (db : ℤ) (design : List ℕ) (rows : List Row) → AreDeclarationRows rows → AllByRecursion (λ r. list_all (holds ((Int db ∷ Blob design ∷ []) ∷ r ∷ [])) by_design ≡ is_of_design db design r) rows
 tests_design db design rows h =
     all_weaker IsDeclarationRow (λ r. list_all (holds ((Int db ∷ Blob design ∷ []) ∷ r ∷ [])) by_design ≡ is_of_design db design r)
-    (λ r k. then_term (int_by Eq (column r 2) (home_of r) db (ap (λ x. column x 2) k.is)) (last_term (same_blob (column r 3) (design_of r) design (ap (λ x. column x 3) k.is)))) rows h.each
+    (λ r k. then_term (int_by Eq (column r 2) (database_of_declaration r) db (ap (λ x. column x 2) k.is)) (last_term (same_blob (column r 3) (design_of r) design (ap (λ x. column x 3) k.is)))) rows h.each
 
 abbrev shown : List Term
 shown = col 1 0 ∷ col 1 4 ∷ col 1 5 ∷ []

@@ -13,8 +13,8 @@ use Rattle.couch_json.specs.Value.{Value}
 use Rattle.tables.proofs.Common.{IsPermutation-sort_by, list_any-IsPermutation, nat_list_cmp_total, on_total}
 use Rattle.tables.proofs.Lookups.{unwritten}
 use Rattle.tables.proofs.Rests.{AreSame, leaves, store_of}
-use Rattle.tables.specs.Layout.{IsDocumentRow, IsLaid, IsStore}
-use Rattle.tables.specs.Rows.{by_id, db_of, history_in, id_of, is_gone, is_of}
+use Rattle.tables.specs.Layout.{IsDocumentRow, IsWellFormed, IsStore}
+use Rattle.tables.specs.Rows.{by_id, db_of, history_in_rows, id_of, is_gone_row, is_row_of_document}
 use Rattle.tables.specs.Schema.{docs_tree, revs_tree}
 use Rattle.tables.specs.declared.decode.ListedDocument.{ListedDocument}
 use Rattle.tree.specs.DocumentId.{is_design_id}
@@ -22,10 +22,10 @@ use Rattle.tree.specs.Revision.{Revision}
 
 -- ---- a document that is not seen
 
-pub unseen_of : (trees : Trees) (l : IsLaid trees) (d : Row) (k : IsDocumentRow trees d) (listed : ListedDocument) → IsListedAs d listed → (listed.deleted || is_design_id listed.id) ≡ true → (db : ℤ) → db_of d ≡ db → sees_in trees db (id_of d) ≡ None
-unseen_of trees l d k listed as_listed unseen db own = (λ j. queried_document (id_of d) (history_in (trees revs_tree) (sym own j) (id_of d))) ∙ go listed.deleted (sym as_listed.deleted) unseen
+pub unseen_of : (trees : Trees) (l : IsWellFormed trees) (d : Row) (k : IsDocumentRow trees d) (listed : ListedDocument) → IsListedAs d listed → (listed.deleted || is_design_id listed.id) ≡ true → (db : ℤ) → db_of d ≡ db → sees_in trees db (id_of d) ≡ None
+unseen_of trees l d k listed as_listed unseen db own = (λ j. queried_document (id_of d) (history_in_rows (trees revs_tree) (sym own j) (id_of d))) ∙ go listed.deleted (sym as_listed.deleted) unseen
   where
-    go : (b : Bool) → is_gone d ≡ b → (b || is_design_id listed.id) ≡ true → queried_document (id_of d) (history_in (trees revs_tree) (db_of d) (id_of d)) ≡ None
+    go : (b : Bool) → is_gone_row d ≡ b → (b || is_design_id listed.id) ≡ true → queried_document (id_of d) (history_in_rows (trees revs_tree) (db_of d) (id_of d)) ≡ None
     go true gone out = gone_unseen trees l d k gone
     go false gone out = design_unseen trees l d k (sym (ap is_design_id as_listed.id) ∙ out)
 
@@ -40,7 +40,7 @@ pub store_stays : (a b : Database) → IsStore a → ChangesOnly entries_tree a 
 store_stays a b store h = store_of a.trees b (h.schema ∙ store.schema_is) (same_tables a b store.schema_is h) store.laid
 
 pub seen_stays : (a b : Database) → a.schema ≡ schema → ChangesOnly entries_tree a b → (db : ℤ) (id : List ℕ) → sees_in b.trees db id ≡ sees_in a.trees db id
-seen_stays a b has h db id = ap (λ rows. queried_document id (history_in rows db id)) (same_tables a b has h).revs
+seen_stays a b has h db id = ap (λ rows. queried_document id (history_in_rows rows db id)) (same_tables a b has h).revs
 
 -- ---- one document more
 
@@ -159,9 +159,9 @@ none_found p (x ∷ xs) out = go (p x) out (none_found p xs)
     go false out more = more out
 
 -- what was never written is not seen
-pub unwritten_unseen : (trees : Trees) → IsLaid trees → (db : ℤ) (i : List ℕ) → list_any (is_of db i) (trees docs_tree) ≡ false → sees_in trees db i ≡ None
+pub unwritten_unseen : (trees : Trees) → IsWellFormed trees → (db : ℤ) (i : List ℕ) → list_any (is_row_of_document db i) (trees docs_tree) ≡ false → sees_in trees db i ≡ None
 unwritten_unseen trees l db i none =
-    ap (queried_document i) (unwritten trees db i l (none_found (is_of db i) (trees docs_tree) none))
+    ap (queried_document i) (unwritten trees db i l (none_found (is_row_of_document db i) (trees docs_tree) none))
     ∙ ap (λ (r : Option Revision). if is_design_id i then None else shown_by i empty r) no_live ∙ hidden (is_design_id i)
   where
     no_live : live_rev empty ≡ None

@@ -1,5 +1,5 @@
 -- The indexes of a database follow one document, one index after another.
-use Rattle.index.proofs.Common.{AllByRecursion, AreDeclarationRows, AreEntriesOf, Bool, Declared, Documents, Entries, IsAscending, List, None, Option, Row, Some, [], all-filter, all_both, and_from, ap, arith, ascending-filter, bytes_eq, cases_Bool, cond, declaration_at, declared_at, false, fields_of, filter, find, has_number, home_of, inl, inr, int_eq, ints, is_at_home, is_due, is_due_by, is_due_while, is_key, key_if_seen, list_any, map, number_of, passing, refl, same_int, subst, sym, true, with_key, with_seen, find_found, none_from_any, ℕ, ℤ, ◌&&◌, ◌<ℤ◌, ◌||◌, ◌∙◌, ◌∷◌, ◌≡◌}
+use Rattle.index.proofs.Common.{AllByRecursion, AreDeclarationRows, AreEntriesOf, Bool, Declared, Documents, Entries, IsAscending, List, None, Option, Row, Some, [], all-filter, all_both, and_from, ap, arith, ascending-filter, bytes_eq, cases_Bool, cond, declaration_at, declared_at, false, fields_of, filter, find, has_number, database_of_declaration, inl, inr, int_eq, ints, is_at_home, is_due, is_due_by, is_due_while, is_key, key_if_seen, list_any, map, number_of, passing, refl, same_int, subst, sym, true, with_key, with_seen, find_found, none_from_any, ℕ, ℤ, ◌&&◌, ◌<ℤ◌, ◌||◌, ◌∙◌, ◌∷◌, ◌≡◌}
 use Rattle.index.proofs.EntryChanges.{same_number, int_eq-sym}
 use Rattle.couch_json.specs.Value.{Value}
 use Rattle.std.proofs.lemmas.Bool.{false_from_ne_true}
@@ -59,7 +59,7 @@ module _ (db : ℤ) (id : List ℕ) (sees : Documents) (seen : Option Value) (de
   elsewhere : (k i : List ℕ) (o : Option Row) → ((d : Row) → o ≡ Some d → is_at_home db d ≡ false) → is_due_by sees o k i ≡ is_due_by after o k i
   elsewhere k i None out = refl
   elsewhere k i (Some d) out =
-      ap (λ v. is_key (key_if_seen (fields_of d) v) k) (sym (seen_before (home_of d) i (ap (λ b. b && bytes_eq i id) (out d refl))))
+      ap (λ v. is_key (key_if_seen (fields_of d) v) k) (sym (seen_before (database_of_declaration d) i (ap (λ b. b && bytes_eq i id) (out d refl))))
 
   starts_with : (m : ℤ) (k i : List ℕ) → is_due sees decls m k i ≡ is_due_while (filter (is_at_home db) decls) sees after decls m k i
   starts_with m k i = elim (cases_Bool (list_any (has_number m) (filter (is_at_home db) decls))) [
@@ -92,11 +92,11 @@ module _ (db : ℤ) (id : List ℕ) (sees : Documents) (seen : Option Value) (de
     abbrev n : ℤ
     n = number_of r
 
-    due_by : (docs : Documents) (k i : List ℕ) → is_due docs decls n k i ≡ is_key (key_if_seen (fields_of r) (docs (home_of r) i)) k
+    due_by : (docs : Documents) (k i : List ℕ) → is_due docs decls n k i ≡ is_key (key_if_seen (fields_of r) (docs (database_of_declaration r) i)) k
     due_by docs k i = ap (λ o. is_due_by docs o k i) one.found
 
-    home : home_of r ≡ db
-    home = same_int (home_of r) db one.at_home
+    home : database_of_declaration r ≡ db
+    home = same_int (database_of_declaration r) db one.at_home
 
     left_first : (m : ℤ) → m ≡ n → list_any (has_number m) (r ∷ more) ≡ true
     left_first m same = ap (λ b. b || list_any (has_number m) more) (same_number n m (sym same))
@@ -106,7 +106,7 @@ module _ (db : ℤ) (id : List ℕ) (sees : Documents) (seen : Option Value) (de
         ap (λ b. cond b (is_due sees decls n k id) (is_due after decls n k id)) (left_first n refl)
         ∙ due_by sees k id ∙ ap (λ h. is_key (key_if_seen (fields_of r) (sees h id)) k) home ∙ ap (λ v. is_key (key_if_seen (fields_of r) v) k) is
 
-    gone : (k i : List ℕ) → is_due_while more sees after decls n k i ≡ is_key (key_if_seen (fields_of r) (after (home_of r) i)) k
+    gone : (k i : List ℕ) → is_due_while more sees after decls n k i ≡ is_key (key_if_seen (fields_of r) (after (database_of_declaration r) i)) k
     gone k i = ap (λ b. cond b (is_due sees decls n k i) (is_due after decls n k i)) (none_later r more above) ∙ due_by after k i
 
     pub next : (m : ℤ) (k i : List ℕ) → with_key (is_due_while (r ∷ more) sees after decls) n id (key_if_seen (fields_of r) seen) m k i ≡ is_due_while more sees after decls m k i
@@ -117,14 +117,14 @@ module _ (db : ℤ) (id : List ℕ) (sees : Documents) (seen : Option Value) (de
             let key : Bool = is_key (key_if_seen (fields_of r) seen) k in
             ap (λ b. cond b (is_key (key_if_seen (fields_of r) seen) k) (is_due_while (r ∷ more) sees after decls m k i)) (and_from (int_eq m n) (bytes_eq i id) same alike)
             ∙ sym ((λ j. is_due_while more sees after decls (number j) k i) ∙ gone k i
-            ∙ ap (λ v. is_key (key_if_seen (fields_of r) v) k) (seen_here (home_of r) i (and_from (int_eq (home_of r) db) (bytes_eq i id) one.at_home alike)))
+            ∙ ap (λ v. is_key (key_if_seen (fields_of r) v) k) (seen_here (database_of_declaration r) i (and_from (int_eq (database_of_declaration r) db) (bytes_eq i id) one.at_home alike)))
         | inr apart ↦
             let number : m ≡ n = same_int m n same in
             let out : (int_eq m n && bytes_eq i id) ≡ false = (λ j. same j && apart j) in
-            let away : (int_eq (home_of r) db && bytes_eq i id) ≡ false = (λ j. one.at_home j && apart j) in
+            let away : (int_eq (database_of_declaration r) db && bytes_eq i id) ≡ false = (λ j. one.at_home j && apart j) in
             ap (λ b. cond b (is_key (key_if_seen (fields_of r) seen) k) (is_due_while (r ∷ more) sees after decls m k i)) out
             ∙ ap (λ b. cond b (is_due sees decls m k i) (is_due after decls m k i)) (left_first m number)
-            ∙ (λ j. is_due sees decls (number j) k i) ∙ due_by sees k i ∙ ap (λ v. is_key (key_if_seen (fields_of r) v) k) (sym (seen_before (home_of r) i away))
+            ∙ (λ j. is_due sees decls (number j) k i) ∙ due_by sees k i ∙ ap (λ v. is_key (key_if_seen (fields_of r) v) k) (sym (seen_before (database_of_declaration r) i away))
             ∙ sym ((λ j. is_due_while more sees after decls (number j) k i) ∙ gone k i)
       ]
       | inr other ↦

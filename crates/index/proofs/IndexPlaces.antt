@@ -20,13 +20,13 @@ use Rattle.tables.proofs.Tables.{of_these}
 use Rattle.tree.proofs.Kept.{revision_cmp_total}
 use Rattle.tree.proofs.Revisions.{same}
 use Rattle.tables.proofs.Lookups.{document_found}
-use Rattle.tables.specs.Layout.{IsDocumentRow, IsLaid, IsRevisionRow}
-use Rattle.tables.specs.Rows.{database_of, db_of, entry_of, history_in, id_of, is_of, revision_of}
+use Rattle.tables.specs.Layout.{IsDocumentRow, IsWellFormed, IsRevisionRow}
+use Rattle.tables.specs.Rows.{database_of_row, db_of, entry_of, history_in_rows, id_of, is_row_of_document, revision_of_row}
 use Rattle.tables.specs.Schema.{docs_tree, revs_tree}
 use Rattle.tree.specs.DocumentId.{is_design_id, is_document_id}
 use Rattle.tree.specs.History.{held_of}
 use Rattle.tree.specs.Revision.{is_revision, revision_cmp}
-use Rattle.tree.specs.ShownDocument.{shown_document}
+use Rattle.tree.specs.ShownDocument.{document_at_revision}
 use Rattle.tree.specs.declared.entry.Entry.{Entry}
 use Rattle.tree.specs.declared.entry.Held.{Held}
 use Rattle.index.proofs.Alike.{key_is}
@@ -40,15 +40,15 @@ use Rattle.index.specs.Places.{AreEntriesAt, IsReadable, spot_of}
 -- ---- what is held of a revision stands in a row
 
 module _ (Q : Row → Type 0) where
-  found_row : (rows : List Row) (q : Revision) (e : Entry) → AllByRecursion Q rows → finite.find revision_cmp q (map (λ r. (revision_of r, entry_of r)) rows) ≡ Some e
-      → (r : Row) × Q r × (revision_of r ≡ q) × (entry_of r ≡ e)
+  found_row : (rows : List Row) (q : Revision) (e : Entry) → AllByRecursion Q rows → finite.find revision_cmp q (map (λ r. (revision_of_row r, entry_of r)) rows) ≡ Some e
+      → (r : Row) × Q r × (revision_of_row r ≡ q) × (entry_of r ≡ e)
   found_row [] q e all is = absurd (cc)
-  found_row (r ∷ rows) q e all is = go (eq_by_cmp revision_cmp q (revision_of r)) refl (found_row rows q e all.1) is
+  found_row (r ∷ rows) q e all is = go (eq_by_cmp revision_cmp q (revision_of_row r)) refl (found_row rows q e all.1) is
     where
-      go : (b : Bool) → eq_by_cmp revision_cmp q (revision_of r) ≡ b
-          → (finite.find revision_cmp q (map (λ s. (revision_of s, entry_of s)) rows) ≡ Some e → (s : Row) × Q s × (revision_of s ≡ q) × (entry_of s ≡ e))
-          → cond b (Some (entry_of r)) (finite.find revision_cmp q (map (λ s. (revision_of s, entry_of s)) rows)) ≡ Some e → (s : Row) × Q s × (revision_of s ≡ q) × (entry_of s ≡ e)
-      go true tied rest more = (r, all.0, sym (same q (revision_of r) tied), inside (entry_of r) e more)
+      go : (b : Bool) → eq_by_cmp revision_cmp q (revision_of_row r) ≡ b
+          → (finite.find revision_cmp q (map (λ s. (revision_of_row s, entry_of s)) rows) ≡ Some e → (s : Row) × Q s × (revision_of_row s ≡ q) × (entry_of s ≡ e))
+          → cond b (Some (entry_of r)) (finite.find revision_cmp q (map (λ s. (revision_of_row s, entry_of s)) rows)) ≡ Some e → (s : Row) × Q s × (revision_of_row s ≡ q) × (entry_of s ≡ e)
+      go true tied rest more = (r, all.0, sym (same q (revision_of_row r) tied), inside (entry_of r) e more)
       go false tied rest more = rest more
 
 -- what queries see of a document of laid tables
@@ -57,28 +57,28 @@ pub record IsSeenWell (id : List ℕ) (v : Value) : Type 0 where
   pub named : IsTrue (is_document_id id)
   pub text : IsUtf8 id
 
-module _ (trees : Trees) (laid : IsLaid trees) (db : ℤ) (id : List ℕ) where
+module _ (trees : Trees) (laid : IsWellFormed trees) (db : ℤ) (id : List ℕ) where
   abbrev own : HistoryContent
-  own = history_in (trees revs_tree) db id
+  own = history_in_rows (trees revs_tree) db id
 
   abbrev IsOwn : Row → Type 0
-  IsOwn r = IsRevisionRow trees r × (is_of db id r ≡ true)
+  IsOwn r = IsRevisionRow trees r × (is_row_of_document db id r ≡ true)
 
-  held_well : (q : Revision) (held : Held) (v : Value) → held_of own q ≡ Some held → shown_document id q held ≡ v → IsSeenWell id v
+  held_well : (q : Revision) (held : Held) (v : Value) → held_of own q ≡ Some held → document_at_revision id q held ≡ v → IsSeenWell id v
   held_well q held v is shows = at_entry (finite.get own q) refl is
     where
       at_entry : (o : Option Entry) → finite.get own q ≡ o → option_and_then (λ (e : Entry). e.held) o ≡ Some held → IsSeenWell id v
       at_entry None none k = absurd (cc)
       at_entry (Some e) there k =
-          let rows = filter (is_of db id) (trees revs_tree) in
-          let each = all_both (IsRevisionRow trees) (λ r. is_of db id r ≡ true) IsOwn (λ r a b. (a, b)) rows (all-filter (IsRevisionRow trees) (is_of db id) (trees revs_tree) laid.revs) (passing (is_of db id) (trees revs_tree)) in
-          let got = sym (finite.get-from_entries revision_cmp_total (map (λ r. (revision_of r, entry_of r)) rows) q) ∙ there in
+          let rows = filter (is_row_of_document db id) (trees revs_tree) in
+          let each = all_both (IsRevisionRow trees) (λ r. is_row_of_document db id r ≡ true) IsOwn (λ r a b. (a, b)) rows (all-filter (IsRevisionRow trees) (is_row_of_document db id) (trees revs_tree) laid.revs) (passing (is_row_of_document db id) (trees revs_tree)) in
+          let got = sym (finite.get-from_entries revision_cmp_total (map (λ r. (revision_of_row r, entry_of r)) rows) q) ∙ there in
           let f = found_row IsOwn rows q e each got in
           let r = f.0 in
           let row = f.1.0 in
           let keys = of_these db id r f.1.1 in
           let holds : (entry_of r).held ≡ Some held = ap (λ (x : Entry). x.held) f.3 ∙ k in
-          let d = any_in (is_of (db_of r) (id_of r)) (trees docs_tree) row.there in
+          let d = any_in (is_row_of_document (db_of r) (id_of r)) (trees docs_tree) row.there in
           let doc = at_in (IsDocumentRow trees) (trees docs_tree) d.0 laid.docs d.1 in
           let same_id : id_of d.0 ≡ id = (of_these (db_of r) (id_of r) d.0 d.2).1 ∙ keys.1 in
           let text = subst IsUtf8 same_id doc.text in
@@ -93,9 +93,9 @@ module _ (trees : Trees) (laid : IsLaid trees) (db : ℤ) (id : List ℕ) where
   shown_well None v is = absurd (cc)
   shown_well (Some q) v is = go (held_of own q) refl is
     where
-      go : (o : Option Held) → held_of own q ≡ o → option_map (λ held. shown_document id q held) o ≡ Some v → IsSeenWell id v
+      go : (o : Option Held) → held_of own q ≡ o → option_map (λ held. document_at_revision id q held) o ≡ Some v → IsSeenWell id v
       go None none k = absurd (cc)
-      go (Some held) there k = held_well q held v there (inside (shown_document id q held) v k)
+      go (Some held) there k = held_well q held v there (inside (document_at_revision id q held) v k)
 
   pub seen_well : (v : Value) → sees_in trees db id ≡ Some v → IsSeenWell id v
   seen_well v is = go (is_design_id id) is
@@ -117,12 +117,12 @@ empty_seen id = ap (λ w. if is_design_id id then None else shown_by id finite.e
     neither true = refl
     neither false = refl
 
-module _ (trees : Trees) (laid : IsLaid trees) (is : IsIndexed trees) (r d : Row) (design name : List ℕ) (found : find (is_declaration_of (number_of r) design name) (trees decls_tree) ≡ Some d) where
+module _ (trees : Trees) (laid : IsWellFormed trees) (is : IsIndexed trees) (r d : Row) (design name : List ℕ) (found : find (is_declaration_of (number_of r) design name) (trees decls_tree) ≡ Some d) where
   abbrev n : ℤ
   n = number_of r
 
   abbrev content : Database
-  content = database_of trees r
+  content = database_of_row trees r
 
   abbrev fields : List (List ℕ)
   fields = fields_of d
@@ -178,7 +178,7 @@ module _ (trees : Trees) (laid : IsLaid trees) (is : IsIndexed trees) (r d : Row
           let same = inside (array vs) p.key e in
           record { lawful = subst IsLawful same sound.0; shallow = omega (arith, ap depth same, sound.1); named = well.named; text = well.text }
 
-  pub entries_at : AreEntriesAt (number_of d) (index_rows (fields_of d) (database_of trees r)) (trees entries_tree)
+  pub entries_at : AreEntriesAt (number_of d) (index_rows (fields_of d) (database_of_row trees r)) (trees entries_tree)
   entries_at = record {
     laid = is.entries.laid;
     ascending = rows_ascend fields content;

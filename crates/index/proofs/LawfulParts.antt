@@ -1,12 +1,11 @@
 -- The parts of a lawful value are lawful, and what is shown of a lawful body.
-use Rattle.std.proofs.Common.{◌≡◌, ◌≤◌, ◌<◌, ◌^◌, ◌⊎◌, inl, inr, ⊎_elim, ℕ, ◌+◌, Bool, true, false, ltb-true, nat_lt, List, [], ◌∷◌, ◌++◌, Option, Some, None, max, refl, ap, ◌∙◌, subst, arith}
+use Rattle.std.proofs.Common.{◌≡◌, ◌≤◌, ◌<◌, ◌^◌, ◌⊎◌, ⊎_elim, ℕ, ◌+◌, Bool, true, false, ltb-true, nat_lt, List, [], ◌∷◌, ◌++◌, Option, Some, None, max, refl, ap, ◌∙◌, subst, arith}
 use Rattle.std.specs.Prelude.{IsUtf8, codes, option_and_then}
 use Rattle.std.specs.declared.cmp.Ordering.{Ordering}
 use Rattle.std.specs.declared.cmp.Ordering.TheVariants.{Less, Equal, Greater}
-use Rattle.std.specs.Ordering.{nat_cmp, match_ordering, ordering_reverse}
+use Rattle.std.specs.Ordering.{nat_cmp, match_ordering}
 use Rattle.std.specs.Cmp.Lexicographic.{slice_cmp}
 use Rattle.std.specs.Fmt.{decimal}
-use Rattle.std.proofs.lemmas.Cmp.{nat_list_cmp_total}
 use Rattle.std.proofs.lemmas.Fmt.{IsAscii-decimal}
 use Rattle.std.proofs.lemmas.List.Elements.{All-weaker}
 use Rattle.std.proofs.lemmas.List.Sums.{AllPass-from_list_all}
@@ -16,71 +15,15 @@ use Rattle.std.specs.List.{list_all}
 use Rattle.std.proofs.lemmas.Bool.Decides.{nat_tests}
 use Rattle.std.specs.Cmp.{first_so, second_so}
 use Rattle.std.specs.Prelude.{nat_le}
+use Rattle.couch_json.proofs.LawfulParts.{member_part, one_of, put_lawful}
 use Rattle.couch_json.specs.FieldPath.{names_in, value_along, value_at}
-use Rattle.couch_json.specs.Lawful.{AreLawfulItems, AreLawfulMembers, HasAscendingNames, IsBefore, IsLawful}
+use Rattle.couch_json.specs.Lawful.{AreLawfulItems, IsLawful}
 use Rattle.couch_json.specs.Value.{Items, Members, Value, array, depth, item, items_depth, member, member_at, member_of, members_depth, no_items, no_members, null, object, put, text, truth, whole}
 use Rattle.store.specs.Indexes.{field_values, values_with}
 use Rattle.tree.proofs.RevisionText.{IsUtf8-revision}
 use Rattle.tree.specs.Revision.{Revision, greatest_number, is_revision, text_of}
-use Rattle.tree.specs.ShownDocument.{members_in, shown_document, with_mark}
+use Rattle.tree.specs.ShownDocument.{body_members, document_at_revision, with_mark}
 use Rattle.tree.specs.declared.entry.Held.{Held}
-
-one_of : (o : Ordering) (found here : Option Value) (v : Value) → match_ordering o found here found ≡ Some v → (found ≡ Some v) ⊎ (here ≡ Some v)
-one_of Less found here v e = inl e
-one_of Equal found here v e = inr e
-one_of Greater found here v e = inl e
-
-member_lawful : (name : List ℕ) (ms : Members) (v : Value) → AreLawfulMembers ms → member_at name ms ≡ Some v → IsLawful v
-member_lawful name no_members v h e = absurd cc
-member_lawful name (member other w ms) v h e =
-    ⊎_elim (λ k. member_lawful name ms v h.2 k) (λ k. let same : w ≡ v = cc in subst IsLawful same h.1)
-    (one_of (slice_cmp nat_cmp name other) (member_at name ms) (Some w) v e)
-
--- a member of a lawful value is lawful
-pub member_part : (v w : Value) (name : List ℕ) → IsLawful v → member_of v name ≡ Some w → IsLawful w
-member_part null w name h e = absurd cc
-member_part (truth b) w name h e = absurd cc
-member_part (whole n) w name h e = absurd cc
-member_part (text t) w name h e = absurd cc
-member_part (array vs) w name h e = absurd cc
-member_part (object ms) w name h e = member_lawful name ms w h.1 e
-
--- ---- members that are put
-
-before_put : (a name : List ℕ) (v : Value) (ms : Members) → slice_cmp nat_cmp a name ≡ Less → IsBefore a ms → IsBefore a (put name v ms)
-before_put a name v no_members lt h = (lt, tt)
-before_put a name v (member other w ms) lt h = by (slice_cmp nat_cmp name other) (before_put a name v ms lt h.1)
-  where
-    by : (o : Ordering) → IsBefore a (put name v ms) → IsBefore a (match_ordering o (member name v (member other w ms)) (member other v ms) (member other w (put name v ms)))
-    by Less rest = (lt, h)
-    by Equal rest = h
-    by Greater rest = (h.0, rest)
-
-before_all : (a b : List ℕ) (ms : Members) → slice_cmp nat_cmp a b ≡ Less → IsBefore b ms → IsBefore a ms
-before_all a b no_members lt h = tt
-before_all a b (member other w ms) lt h = (nat_list_cmp_total.trans a b other lt h.0, before_all a b ms lt h.1)
-
-put_ascends : (name : List ℕ) (v : Value) (ms : Members) → HasAscendingNames ms → HasAscendingNames (put name v ms)
-put_ascends name v no_members h = (tt, tt)
-put_ascends name v (member other w ms) h = by (slice_cmp nat_cmp name other) refl (put_ascends name v ms h.1)
-  where
-    by : (o : Ordering) → slice_cmp nat_cmp name other ≡ o → HasAscendingNames (put name v ms) → HasAscendingNames (match_ordering o (member name v (member other w ms)) (member other v ms) (member other w (put name v ms)))
-    by Less is rest = ((is, before_all name other ms is h.0), h)
-    by Equal is rest = h
-    by Greater is rest = (before_put other name v ms (nat_list_cmp_total.antisymm other name ∙ ap ordering_reverse is) h.0, rest)
-
-put_each : (name : List ℕ) (v : Value) (ms : Members) → IsUtf8 name → IsLawful v → AreLawfulMembers ms → AreLawfulMembers (put name v ms)
-put_each name v no_members u k h = (u, k, tt)
-put_each name v (member other w ms) u k h = by (slice_cmp nat_cmp name other) (put_each name v ms u k h.2)
-  where
-    by : (o : Ordering) → AreLawfulMembers (put name v ms) → AreLawfulMembers (match_ordering o (member name v (member other w ms)) (member other v ms) (member other w (put name v ms)))
-    by Less rest = (u, k, h)
-    by Equal rest = (h.0, k, h.2)
-    by Greater rest = (h.0, h.1, rest)
-
--- a lawful object with a lawful member more is lawful
-pub put_lawful : (name : List ℕ) (v : Value) (ms : Members) → IsUtf8 name → IsLawful v → IsLawful (object ms) → IsLawful (object (put name v ms))
-put_lawful name v ms u k h = (put_ascends name v ms h.0, put_each name v ms u k h.1)
 
 -- ---- how deep the parts nest
 
@@ -159,7 +102,7 @@ revision_text r h =
     let bounded : nat_le r.number greatest_number ≡ true = second_so _ _ (first_so _ _ h) in
     three_texts (decimal r.number) (codes "-") r.hash (IsUtf8-from_ascii (decimal r.number) (IsAscii-decimal r.number (small r.number bounded))) (ascii_text (codes "-") refl) (IsUtf8-revision r h)
 
-members_sound : (body : Value) (n : ℕ) → IsLawful body → depth body ≤ n → IsLawful (object (members_in body)) × (members_depth (members_in body) ≤ n)
+members_sound : (body : Value) (n : ℕ) → IsLawful body → depth body ≤ n → IsLawful (object (body_members body)) × (members_depth (body_members body) ≤ n)
 members_sound null n h d = ((tt, tt), omega arith)
 members_sound (truth b) n h d = ((tt, tt), omega arith)
 members_sound (whole m) n h d = ((tt, tt), omega arith)
@@ -171,11 +114,11 @@ mark_sound : (b : Bool) (ms : Members) (n : ℕ) → IsLawful (object ms) → me
 mark_sound true ms n h d = (put_lawful (codes "_deleted") (truth true) ms (ascii_text (codes "_deleted") refl) tt h, put_shallow (codes "_deleted") (truth true) ms n (omega arith) d)
 mark_sound false ms n h d = (h, d)
 
-pub shown_sound : (id : List ℕ) (r : Revision) (held : Held) (n : ℕ) → IsUtf8 id → is_revision r ≡ true → IsLawful held.body → depth held.body ≤ n → IsSound (n + 1) (shown_document id r held)
+pub shown_sound : (id : List ℕ) (r : Revision) (held : Held) (n : ℕ) → IsUtf8 id → is_revision r ≡ true → IsLawful held.body → depth held.body ≤ n → IsSound (n + 1) (document_at_revision id r held)
 shown_sound id r held n text_ok known lawful shallow =
     let body = members_sound held.body n lawful shallow in
-    let named = put_lawful (codes "_id") (text id) (members_in held.body) (ascii_text (codes "_id") refl) text_ok body.0 in
-    let revised = put_lawful (codes "_rev") (text (text_of r)) (put (codes "_id") (text id) (members_in held.body)) (ascii_text (codes "_rev") refl) (revision_text r known) named in
-    let low = put_shallow (codes "_rev") (text (text_of r)) (put (codes "_id") (text id) (members_in held.body)) n (omega arith) (put_shallow (codes "_id") (text id) (members_in held.body) n (omega arith) body.1) in
-    let marked = mark_sound held.deleted (put (codes "_rev") (text (text_of r)) (put (codes "_id") (text id) (members_in held.body))) n revised low in
+    let named = put_lawful (codes "_id") (text id) (body_members held.body) (ascii_text (codes "_id") refl) text_ok body.0 in
+    let revised = put_lawful (codes "_rev") (text (text_of r)) (put (codes "_id") (text id) (body_members held.body)) (ascii_text (codes "_rev") refl) (revision_text r known) named in
+    let low = put_shallow (codes "_rev") (text (text_of r)) (put (codes "_id") (text id) (body_members held.body)) n (omega arith) (put_shallow (codes "_id") (text id) (body_members held.body) n (omega arith) body.1) in
+    let marked = mark_sound held.deleted (put (codes "_rev") (text (text_of r)) (put (codes "_id") (text id) (body_members held.body))) n revised low in
     record { lawful = marked.0; shallow = omega (arith, marked.1) }

@@ -5,7 +5,7 @@ use Rattle.std.specs.Prelude.{option_and_then}
 use Rattle.store.proofs.Winnings.{no_winner}
 use Rattle.store.specs.Indexes.{declared_fields, held_by, index_fields_of}
 use Rattle.store.specs.Pages.{live_rev, live_rev_by}
-use Rattle.tables.specs.Rows.{history_in}
+use Rattle.tables.specs.Rows.{history_in_rows}
 use Rattle.tree.specs.DocumentId.{is_design_id}
 use Rattle.tree.specs.Revision.{Revision}
 use Rattle.tree.specs.declared.entry.Held.{Held}
@@ -44,4 +44,4 @@ bare_indexed declares sees trees decls entries none = record {
 pub new_indexed : (db : Database) → IsNew db → IsIndexed db.trees
 new_indexed db h =
     bare_indexed (declares_in db.trees) (sees_in db.trees) db.trees h.decls h.entries
-    (λ d design name. ap (λ rows. index_fields_of design (history_in rows d design) name) h.revs ∙ nothing_declared design name)
+    (λ d design name. ap (λ rows. index_fields_of design (history_in_rows rows d design) name) h.revs ∙ nothing_declared design name)

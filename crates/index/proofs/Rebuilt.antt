@@ -1,5 +1,5 @@
 -- One index within a change of several.
-use Rattle.index.proofs.Common.{AllByRecursion, Bool, ChangesIndexes, Database, Declarations, Declared, Documents, List, None, Option, Row, Schema, Some, [], all_both, all_of, and_from, ap, arith, bytes_eq, bytes_eq-Decides, declaration_at, declared_at, declared_by, decls_tree, design_of, entries_tree, false, fields_of, find, find_found, find_passes, home_of, if◌then◌else◌, index_name_of, int_eq, is_declaration_of, list_any, list_any-append, number_of, option_map, refl, schema, sees_in, subst, sym, true, ℕ, ℤ, ◌&&◌, ◌++◌, ◌||◌, ◌∙◌, ◌∷◌, ◌≡◌, ◌≢◌}
+use Rattle.index.proofs.Common.{AllByRecursion, Bool, ChangesIndexes, Database, Declarations, Declared, Documents, List, None, Option, Row, Schema, Some, [], all_both, all_of, and_from, ap, arith, bytes_eq, bytes_eq-Decides, declaration_at, declared_at, declared_by, decls_tree, design_of, entries_tree, false, fields_of, find, find_found, find_passes, database_of_declaration, if◌then◌else◌, index_name_of_row, int_eq, is_declaration_of, list_any, list_any-append, number_of, option_map, refl, schema, sees_in, subst, sym, true, ℕ, ℤ, ◌&&◌, ◌++◌, ◌||◌, ◌∙◌, ◌∷◌, ◌≡◌, ◌≢◌}
 use Rattle.index.proofs.Alike.{alike}
 use Rattle.index.proofs.DeclarationStatements.{of_index}
 use Rattle.index.proofs.EntryChanges.{same_bytes, same_number}
@@ -10,7 +10,7 @@ use Rattle.std.specs.Prelude.{unwrap_or}
 use Rattle.store.specs.Indexes.{queried_document}
 use Rattle.tables.proofs.Rests.{AreSame, store_of}
 use Rattle.tables.specs.Layout.{IsStore}
-use Rattle.tables.specs.Rows.{history_in}
+use Rattle.tables.specs.Rows.{history_in_rows}
 
 -- ---- the tables beside those of indexes
 
@@ -29,7 +29,7 @@ pub store_rebuilt : (a b : Database) → IsStore a → ChangesIndexes a b → Is
 store_rebuilt a b store h = store_of a.trees b (h.schema ∙ store.schema_is) (same_beside a b store.schema_is h) store.laid
 
 pub seen_rebuilt : (a b : Database) → a.schema ≡ schema → ChangesIndexes a b → (db : ℤ) (id : List ℕ) → sees_in b.trees db id ≡ sees_in a.trees db id
-seen_rebuilt a b has h db id = ap (λ rows. queried_document id (history_in rows db id)) (same_beside a b has h).revs
+seen_rebuilt a b has h db id = ap (λ rows. queried_document id (history_in_rows rows db id)) (same_beside a b has h).revs
 
 pub indexes_itself : (a : Database) → ChangesIndexes a a
 indexes_itself a = record { schema = refl; others = all_of (λ t. t.tree ≢ decls_tree → t.tree ≢ entries_tree → a.trees t.tree ≡ a.trees t.tree) (λ t one two. refl) a.schema.tables }
@@ -95,12 +95,12 @@ module _ (declares : Declarations) (db : ℤ) (design name : List ℕ) where
       record { store = fit.fit.store; indexed = fit.fit.indexed; found = ap (declaration_at (a.trees decls_tree)) (sym at.2) ∙ number.0 ∙ ap Some (sym is) }
 
   pub found_own : (sees : Documents) (x : Declared) (a : Database) → IsFoundIn declares sees db design name (Some x) a
-      → (home_of (the_row (a.trees decls_tree)) ≡ db) × (design_of (the_row (a.trees decls_tree)) ≡ design) × (index_name_of (the_row (a.trees decls_tree)) ≡ name)
+      → (database_of_declaration (the_row (a.trees decls_tree)) ≡ db) × (design_of (the_row (a.trees decls_tree)) ≡ design) × (index_name_of_row (the_row (a.trees decls_tree)) ≡ name)
   found_own sees x a fit =
       let at = row_found (find (is_declaration_of db design name) (a.trees decls_tree)) x fit.found_is in
       let is : the_row (a.trees decls_tree) ≡ at.0 = ap (λ o. unwrap_or o []) at.1 in
       let e = of_index db design name at.0 (find_passes (is_declaration_of db design name) (a.trees decls_tree) at.0 at.1) in
-      (ap home_of is ∙ e.0, ap design_of is ∙ e.1, ap index_name_of is ∙ e.2)
+      (ap database_of_declaration is ∙ e.0, ap design_of is ∙ e.1, ap index_name_of_row is ∙ e.2)
 
 -- ---- several names
 

@@ -5,9 +5,9 @@ use Rattle.index.specs.Steps.{AreFit, Steps}
 use Rattle.index.specs.declared.fault.IndexFault.TheVariants as fault
 use Rattle.sqlite_value.specs.declared.value.Value.{Value}
 use Rattle.tables.proofs.Laid.{is_lawful_winner, stored_winner}
-use Rattle.tables.specs.Layout.{IsDocumentRow, IsLaid}
+use Rattle.tables.specs.Layout.{IsDocumentRow, IsWellFormed}
 use Rattle.tables.specs.Listings.{IsListedDocument}
-use Rattle.tables.specs.Rows.{id_of, is_gone, listed_document, sequence_of}
+use Rattle.tables.specs.Rows.{id_of, is_gone_row, listed_document, sequence_of_row}
 use Rattle.tables.specs.Shown.{IsCount}
 
 -- what ends with this error is refused as the error tells
@@ -39,13 +39,13 @@ counted v true is = (1, is)
 counted v false is = (0, is)
 
 -- so is the row of a document, as a list shows it
-pub listed_one : (trees : Trees) → IsLaid trees → (d : Row) → IsDocumentRow trees d → IsListedDocument (listed_document d)
+pub listed_one : (trees : Trees) → IsWellFormed trees → (d : Row) → IsDocumentRow trees d → IsListedDocument (listed_document d)
 listed_one trees laid d k =
     let w = stored_winner trees laid.revs d k in
     record {
       width = refl;
       id = (id_of d, k.named, k.text, ap (λ x. column x 2) k.is);
-      sequence = (sequence_of d, ap (λ x. column x 3) k.is);
+      sequence = (sequence_of_row d, ap (λ x. column x 3) k.is);
       winner = (w.0, is_lawful_winner trees laid.revs d k, ap (λ x. column x 4) k.is ∙ ap Text (sym w.2));
-      mark = counted (column d 5) (is_gone d) (ap (λ x. column x 5) k.is);
+      mark = counted (column d 5) (is_gone_row d) (ap (λ x. column x 5) k.is);
     }

@@ -1,5 +1,5 @@
 -- A row of a declaration is shown as what a reader takes, and fields read back from their text.
-use Rattle.index.proofs.Common.{AllByRecursion, IndexFault, IsDeclarationRow, IsRefused, IsShownDeclaration, List, [], all_weaker, ap, arith, fields_of, fields_text, index_name_of, number_of, refl, rowid, shown_declaration, column, true, Row, ℕ, ◌∷◌, ◌≡◌, and_from}
+use Rattle.index.proofs.Common.{AllByRecursion, IndexFault, IsDeclarationRow, IsRefused, IsShownDeclaration, List, [], all_weaker, ap, arith, fields_of, fields_text, index_name_of_row, number_of, refl, rowid, shown_declaration, column, true, Row, ℕ, ◌∷◌, ◌≡◌, and_from}
 use Rattle.couch_json.proofs.ReadingBack.{reading-canonical}
 use Rattle.couch_json.specs.FieldPath.{is_field_path}
 use Rattle.couch_json.specs.Lawful.{AreLawfulItems}
@@ -27,7 +27,7 @@ shown_one r k =
     record {
       width = refl;
       number = (number_of r, ap rowid k.is);
-      name = (index_name_of r, ap (λ x. column x 4) k.is);
+      name = (index_name_of_row r, ap (λ x. column x 4) k.is);
       fields = (
         fields_text (fields_of r),
         array (path_items (fields_of r)),

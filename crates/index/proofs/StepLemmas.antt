@@ -4,7 +4,7 @@ use Rattle.index.proofs.Going.{on_ok, went_on}
 use Rattle.index.specs.Steps.{Steps}
 use Rattle.sqlite.proofs.InsideLemmas.{keeps_then}
 use Rattle.sqlite.proofs.StateLemmas.{survives_then}
-use Rattle.tables.specs.Calls.{KeepsSchema, LooksInside, Stands}
+use Rattle.tables.specs.Calls.{KeepsSchema, LooksInside, KeepsConnection}
 use Rattle.tables.specs.Calls as calls
 
 asks_itself : (a : State) → AsksInside a a
@@ -74,7 +74,7 @@ module _ {S : Type 0} (g : Ghosts S) where
   steps_err F G a e r is = subst (Steps g F G a a) (sym is) (steps_none F G a (Err e) (λ fit. tt) tt)
 
   -- what is read changes nothing
-  pub steps_read : {X E : Type 0} (F : Database → Type 0) (a b : Held S) (r : Result X E) → Stands g a b r → LooksInside g a b → calls.AsksInside g a b → (F (state g a).now → a.schema ≡ schema) → Steps g F (λ d e. e ≡ d) a b r
+  pub steps_read : {X E : Type 0} (F : Database → Type 0) (a b : Held S) (r : Result X E) → KeepsConnection g a b r → LooksInside g a b → calls.AsksInside g a b → (F (state g a).now → a.schema ≡ schema) → Steps g F (λ d e. e ≡ d) a b r
   steps_read F a b r stands looks asks has = record {
     ok = λ clean fit. on_ok r (λ u. u.0.now_is) (stands (has fit) clean);
     keeps = λ clean is. on_ok r (λ u. ap (λ (d : Database). d.schema) u.0.now_is ∙ is) (stands is clean);

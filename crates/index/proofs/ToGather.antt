@@ -8,7 +8,7 @@ use Rattle.index.proofs.Going.{only_then}
 use Rattle.index.proofs.StepLemmas.{steps_read, steps_then, steps_weaker}
 use Rattle.index.specs.Calls.{HasEntries}
 use Rattle.index.specs.Steps.{Steps}
-use Rattle.tables.specs.Calls.{AsksInside, LooksInside, Stands}
+use Rattle.tables.specs.Calls.{AsksInside, LooksInside, KeepsConnection}
 use Rattle.index.specs.Filling.{AreBare, HaveKeyOf, numbers_of, without_ids}
 use Rattle.index.specs.inner.Gathering.{AreToGather, AreToPut, Entry, HasEntriesBeside, IsToGather, IsToGatherRange, without_documents}
 use Rattle.index.specs.inner.Seen.{IsCut, documents_between}
@@ -17,7 +17,7 @@ use Rattle.std.proofs.lemmas.List.{drop_more, length-map}
 use Rattle.tables.proofs.Rests.{document_kept, length_at}
 use Rattle.tables.specs.Layout.{IsDocumentRow}
 use Rattle.tables.specs.Listings.{is_between}
-use Rattle.tables.specs.Rows.{db_of, history_in, id_of, listed_document}
+use Rattle.tables.specs.Rows.{db_of, history_in_rows, id_of, listed_document}
 use Rattle.tables.specs.Schema.{docs_tree}
 
 and_false : (b : Bool) → (b && false) ≡ false
@@ -53,7 +53,7 @@ module _ (db : ℤ) (xs : List Declared) (rows docs : List Row) (before now : Li
       let same = same_tables a b fit.store.schema_is made.only in
       record {
         store = store_stays a b fit.store made.only;
-        row = document_kept a.trees b.trees d (ap (λ l. length_at l (db_of d)) same.dbs) (ap (λ l. history_in l (db_of d) (id_of d)) same.revs) (all_get (IsDocumentRow a.trees) docs i [] within fit.rows);
+        row = document_kept a.trees b.trees d (ap (λ l. length_at l (db_of d)) same.dbs) (ap (λ l. history_in_rows l (db_of d) (id_of d)) same.revs) (all_get (IsDocumentRow a.trees) docs i [] within fit.rows);
         own = all_get (λ e. db_of e ≡ db) docs i [] within fit.own;
         shown_is = is ∙ ap (λ l. get_or l i s) fit.shown_is ∙ get_map listed_document docs i [] s within;
         numbers = fit.numbers;
@@ -219,7 +219,7 @@ module _ {S : Type 0} (g : Ghosts S) (db : ℤ) (xs : List Declared) (low high f
   Made = HasEntriesBeside (without_documents due (numbers_of xs) (λ id. is_between from high id || left id)) now
 
   -- the bound of the part is read
-  pub bound_read : {X Y E D : Type 0} (x : X) (r : Result Y D) → Steps {X = X} {E = E} g F Made a b (Ok x) → Stands g b c r → LooksInside g b c → AsksInside g b c → Steps g F Made a c r
+  pub bound_read : {X Y E D : Type 0} (x : X) (r : Result Y D) → Steps {X = X} {E = E} g F Made a b (Ok x) → KeepsConnection g b c r → LooksInside g b c → AsksInside g b c → Steps g F Made a c r
   bound_read {X} {Y} {E} {D} x r inv stands looks asks =
       steps_then g {E = E} F (λ p. p.schema ≡ schema) Made (λ p q. q ≡ p) Made a b c x r inv (steps_read g (λ p. p.schema ≡ schema) b c r stands looks asks (λ has. has)) (λ was fit made. made.only.schema ∙ fit.store.schema_is)
       (λ was fit made same. subst (λ z. Made (state g a).now z) (sym same) made)

@@ -1,5 +1,5 @@
 -- What is left of the index rows when one index is taken out.
-use Rattle.index.proofs.Common.{AllByRecursion, AreDeclarationRows, AreEntriesOf, AreIndexed, Bool, Changes, ChangesIndexes, Database, Declarations, Documents, Entries, HasEntries, IsAscending, List, None, Option, Row, Schema, Some, Trees, [], all_both, all_weaker, ap, arith, bytes_eq, bytes_eq-Decides, cases_Bool, cond, declaration_at, declared_by, decls_tree, design_of, entries_tree, false, fields_of, filter, find, find_found, has_entry, has_number, home_of, if◌then◌else◌, index_name_of, inl, inr, int_eq, ints, is_declaration_of, is_due, is_due_by, is_entry_in, list_any, not, number_of, option_map, passing, refl, same_int, schema, subst, sym, true, without_numbers, ℕ, ℤ, ◌&&◌, ◌++◌, ◌<ℤ◌, ◌||◌, ◌∙◌, ◌∷◌, ◌≡◌, ◌≢◌, and_from, find_passes, all-filter}
+use Rattle.index.proofs.Common.{AllByRecursion, AreDeclarationRows, AreEntriesOf, AreIndexed, Bool, Changes, ChangesIndexes, Database, Declarations, Documents, Entries, HasEntries, IsAscending, List, None, Option, Row, Schema, Some, Trees, [], all_both, all_weaker, ap, arith, bytes_eq, bytes_eq-Decides, cases_Bool, cond, declaration_at, declared_by, decls_tree, design_of, entries_tree, false, fields_of, filter, find, find_found, has_entry, has_number, database_of_declaration, if◌then◌else◌, index_name_of_row, inl, inr, int_eq, ints, is_declaration_of, is_due, is_due_by, is_entry_in, list_any, not, number_of, option_map, passing, refl, same_int, schema, subst, sym, true, without_numbers, ℕ, ℤ, ◌&&◌, ◌++◌, ◌<ℤ◌, ◌||◌, ◌∙◌, ◌∷◌, ◌≡◌, ◌≢◌, and_from, find_passes, all-filter}
 use Rattle.index.proofs.Alike.{index_found}
 use Rattle.index.proofs.DeclarationStatements.{of_index}
 use Rattle.index.proofs.Dropped.{clears_one, declarations-filter, find_none}
@@ -54,54 +54,54 @@ module _ (declares : Declarations) (sees : Documents) (n : ℤ) (d : Row) (rows 
       yes false = refl
 
   -- a row of another index has another number
-  others : (db : ℤ) (design name : List ℕ) → (home_of d ≡ db → design_of d ≡ design → index_name_of d ≡ name → ⊥) → AllByRecursion (λ r. is_declaration_of db design name r ≡ true → has_number n r ≡ false) rows
+  others : (db : ℤ) (design name : List ℕ) → (database_of_declaration d ≡ db → design_of d ≡ design → index_name_of_row d ≡ name → ⊥) → AllByRecursion (λ r. is_declaration_of db design name r ≡ true → has_number n r ≡ false) rows
   others db design name away =
       all_weaker (λ r. declaration_at rows (number_of r) ≡ Some r) (λ r. is_declaration_of db design name r ≡ true → has_number n r ≡ false)
       (λ r found here. false_from_ne_true (has_number n r)
       (λ there.
       let same : d ≡ r = let both = sym is ∙ ap (declaration_at rows) (sym (same_int (number_of r) n there)) ∙ found in cc in
       let own = of_index db design name r here in
-      away (ap home_of same ∙ own.0) (ap design_of same ∙ own.1) (ap index_name_of same ∙ own.2))) rows (found_each rows laid.rising)
+      away (ap database_of_declaration same ∙ own.0) (ap design_of same ∙ own.1) (ap index_name_of_row same ∙ own.2))) rows (found_each rows laid.rising)
 
   -- and each row of that index has this one
-  all_own : AllByRecursion (λ r. not (has_number n r) ≡ true → is_declaration_of (home_of d) (design_of d) (index_name_of d) r ≡ false) rows
+  all_own : AllByRecursion (λ r. not (has_number n r) ≡ true → is_declaration_of (database_of_declaration d) (design_of d) (index_name_of_row d) r ≡ false) rows
   all_own =
-      let mine = (find_found (λ r. find (is_declaration_of (home_of r) (design_of r) (index_name_of r)) rows ≡ Some r) (has_number n) rows d (index_found rows laid) is).0 in
-      all_weaker (λ r. find (is_declaration_of (home_of r) (design_of r) (index_name_of r)) rows ≡ Some r) (λ r. not (has_number n r) ≡ true → is_declaration_of (home_of d) (design_of d) (index_name_of d) r ≡ false)
-      (λ r found out. false_from_ne_true (is_declaration_of (home_of d) (design_of d) (index_name_of d) r)
+      let mine = (find_found (λ r. find (is_declaration_of (database_of_declaration r) (design_of r) (index_name_of_row r)) rows ≡ Some r) (has_number n) rows d (index_found rows laid) is).0 in
+      all_weaker (λ r. find (is_declaration_of (database_of_declaration r) (design_of r) (index_name_of_row r)) rows ≡ Some r) (λ r. not (has_number n r) ≡ true → is_declaration_of (database_of_declaration d) (design_of d) (index_name_of_row d) r ≡ false)
+      (λ r found out. false_from_ne_true (is_declaration_of (database_of_declaration d) (design_of d) (index_name_of_row d) r)
       (λ here.
-      let own = of_index (home_of d) (design_of d) (index_name_of d) r here in
+      let own = of_index (database_of_declaration d) (design_of d) (index_name_of_row d) r here in
       let same : r ≡ d = let both = sym found ∙ (λ j. find (is_declaration_of (own.0 j) (own.1 j) (own.2 j)) rows) ∙ mine in cc in
       let number : has_number n r ≡ true = same_number (number_of r) n (ap number_of same ∙ numbered) in
       let gone = sym (ap not number) ∙ out in cc)) rows (index_found rows laid)
 
   declared_left : ((db : ℤ) (design name : List ℕ) → declared_by rows db design name ≡ declares db design name) → (db : ℤ) (design name : List ℕ)
-      → declared_by left db design name ≡ with_index declares (home_of d) (design_of d) (index_name_of d) None db design name
-  declared_left said db design name = elim (cases_Bool (int_eq db (home_of d) && (bytes_eq design (design_of d) && bytes_eq name (index_name_of d)))) [
+      → declared_by left db design name ≡ with_index declares (database_of_declaration d) (design_of d) (index_name_of_row d) None db design name
+  declared_left said db design name = elim (cases_Bool (int_eq db (database_of_declaration d) && (bytes_eq design (design_of d) && bytes_eq name (index_name_of_row d)))) [
     | inl same ↦
         let e = parts same in
         (λ j. declared_by left (e.0 j) (e.1 j) (e.2 j))
         ∙ ap (option_map fields_of)
-        (find_none (is_declaration_of (home_of d) (design_of d) (index_name_of d)) left
-        (all_both (λ r. not (has_number n r) ≡ true → is_declaration_of (home_of d) (design_of d) (index_name_of d) r ≡ false) (λ r. not (has_number n r) ≡ true) (λ r. is_declaration_of (home_of d) (design_of d) (index_name_of d) r ≡ false)
+        (find_none (is_declaration_of (database_of_declaration d) (design_of d) (index_name_of_row d)) left
+        (all_both (λ r. not (has_number n r) ≡ true → is_declaration_of (database_of_declaration d) (design_of d) (index_name_of_row d) r ≡ false) (λ r. not (has_number n r) ≡ true) (λ r. is_declaration_of (database_of_declaration d) (design_of d) (index_name_of_row d) r ≡ false)
         (λ r own out. own out) left (all-filter _ (λ r. not (has_number n r)) rows all_own) (passing (λ r. not (has_number n r)) rows)))
         ∙ sym (ap (λ b. if b then None else declares db design name) same)
     | inr other ↦
         ap (option_map fields_of)
         (find_left (is_declaration_of db design name) (has_number n) rows (others db design name
-        (λ a b c. let same = and_from (int_eq db (home_of d)) _ (same_number db (home_of d) (sym a)) (and_from (bytes_eq design (design_of d)) (bytes_eq name (index_name_of d)) (same_bytes _ _ (sym b)) (same_bytes _ _ (sym c))) in cc)))
+        (λ a b c. let same = and_from (int_eq db (database_of_declaration d)) _ (same_number db (database_of_declaration d) (sym a)) (and_from (bytes_eq design (design_of d)) (bytes_eq name (index_name_of_row d)) (same_bytes _ _ (sym b)) (same_bytes _ _ (sym c))) in cc)))
         ∙ said db design name ∙ sym (ap (λ b. if b then None else declares db design name) other)
   ]
     where
-      parts : (int_eq db (home_of d) && (bytes_eq design (design_of d) && bytes_eq name (index_name_of d))) ≡ true → (db ≡ home_of d) × (design ≡ design_of d) × (name ≡ index_name_of d)
+      parts : (int_eq db (database_of_declaration d) && (bytes_eq design (design_of d) && bytes_eq name (index_name_of_row d))) ≡ true → (db ≡ database_of_declaration d) × (design ≡ design_of d) × (name ≡ index_name_of_row d)
       parts same =
-          let p = Rattle.index.proofs.Common.and_parts (int_eq db (home_of d)) _ same in
+          let p = Rattle.index.proofs.Common.and_parts (int_eq db (database_of_declaration d)) _ same in
           let q = Rattle.index.proofs.Common.and_parts (bytes_eq design (design_of d)) _ p.1 in
-          (same_int db (home_of d) p.0, (bytes_eq-Decides design (design_of d)).0 q.0, (bytes_eq-Decides name (index_name_of d)).0 q.1)
+          (same_int db (database_of_declaration d) p.0, (bytes_eq-Decides design (design_of d)).0 q.0, (bytes_eq-Decides name (index_name_of_row d)).0 q.1)
 
 pub undeclared : (declares : Declarations) (sees : Documents) (n : ℤ) (d : Row) (a b c : Database) → IsDeclared declares sees n d a
     → Changes entries_tree (filter (λ r. not (is_entry_in n r)) (a.trees entries_tree)) a b → Changes decls_tree (filter (λ r. not (has_number n r)) (b.trees decls_tree)) b c
-    → IsRebuilt (with_index declares (home_of d) (design_of d) (index_name_of d) None) sees a c
+    → IsRebuilt (with_index declares (database_of_declaration d) (design_of d) (index_name_of_row d) None) sees a c
 undeclared declares sees n d a b c fit first second =
     let has = fit.store.schema_is in
     let decls = a.trees decls_tree in

@@ -10,7 +10,7 @@ use Rattle.sqlite.specs.Held.{Held, state}
 use Rattle.sqlite.specs.State.{HasCleanDisk}
 use Rattle.sqlite_trees.specs.declared.store.Store.{Ghosts}
 use Rattle.tables.specs.Layout.{IsDocumentRow, IsStore}
-use Rattle.tables.specs.Rows.{db_of, id_of, is_gone}
+use Rattle.tables.specs.Rows.{db_of, id_of, is_gone_row}
 use Rattle.tree.specs.DocumentId.{is_design_id}
 use Rattle.tables.specs.Schema.{schema, decls_tree, entries_tree}
 use Rattle.tables.specs.declared.decode.ListedDocument.{ListedDocument}
@@ -101,4 +101,4 @@ Drops g db old new r =
 abbrev pub FindsLive : {S E : Type 0} → Ghosts S → ℤ → ListedDocument → Held S → Held S → Result Json E → Type 0
 FindsLive g db listed old new r =
     HasCleanDisk (state g new) → IsStore (state g old).now → (d : Row) → IsDocumentRow (state g old).now.trees d → db_of d ≡ db → IsListedAs d listed
-    → is_gone d ≡ false → is_design_id (id_of d) ≡ false → IfOk r (λ seen. Some (view seen) ≡ sees_in (state g old).now.trees db (id_of d))
+    → is_gone_row d ≡ false → is_design_id (id_of d) ≡ false → IfOk r (λ seen. Some (view seen) ≡ sees_in (state g old).now.trees db (id_of d))

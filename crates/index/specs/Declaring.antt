@@ -16,7 +16,7 @@ use Rattle.index.specs.Calls.{ChangesIndexes}
 use Rattle.index.specs.Filling.{HaveOwnNumbers, numbers_of}
 use Rattle.index.specs.Indexed.{AreEntriesOf, AreIndexed, is_due, without_numbers}
 use Rattle.index.specs.Meaning.{Declarations, Documents, sees_in}
-use Rattle.index.specs.Rows.{declaration_at, declaration_cells, declared_by, design_of, fields_text, home_of, index_name_of, is_declaration_of}
+use Rattle.index.specs.Rows.{declaration_at, declaration_cells, declared_by, design_of, fields_text, database_of_declaration, index_name_of_row, is_declaration_of}
 use Rattle.index.specs.Layout.{AreDeclarationRows, HasIndexRows}
 use Rattle.index.specs.Shown.{Declared, declared, declared_at}
 use Rattle.index.specs.Steps.{Steps}
@@ -41,7 +41,7 @@ pub record IsDeclared (declares : Declarations) (sees : Documents) (number : ℤ
 abbrev pub Undeclares : {S X E : Type 0} → Ghosts S → ℤ → Held S → Held S → Result X E → Type 0
 Undeclares g number old new r =
     (declares : Declarations) (sees : Documents) (d : Row)
-    → Steps g (IsDeclared declares sees number d) (IsRebuilt (with_index declares (home_of d) (design_of d) (index_name_of d) None) sees) old new r
+    → Steps g (IsDeclared declares sees number d) (IsRebuilt (with_index declares (database_of_declaration d) (design_of d) (index_name_of_row d) None) sees) old new r
 
 -- What is found is what the row of this index says.
 abbrev pub FindsDeclared : {S E : Type 0} → Ghosts S → ℤ → List ℕ → List ℕ → Held S → Held S → Result Declaration E → Type 0
@@ -109,7 +109,7 @@ pub record HasItsRow (db : ℤ) (rows : List Row) (x : Declared) : Type 0 where
   pub row : Row
   pub found : declaration_at rows x.number ≡ Some row
   pub says : declared_at row ≡ x
-  pub own : home_of row ≡ db
+  pub own : database_of_declaration row ≡ db
 
 -- The index rows are those of these declarations over what is stored in this database, but that those indexes of a design document whose names
 -- are left may be missing, and that the fresh ones have no entries.

@@ -9,7 +9,7 @@ use Rattle.tables.specs.Rows.{has_number}
 use Rattle.tables.specs.Schema.{decls_tree, entries_tree}
 use Rattle.index.specs.Layout.{AreDeclarationRows, AreEntryRows}
 use Rattle.index.specs.Meaning.{Declarations, Documents, declares_in, is_key, key_if_seen, sees_in}
-use Rattle.index.specs.Rows.{declaration_at, declared_by, fields_of, has_entry, home_of}
+use Rattle.index.specs.Rows.{declaration_at, declared_by, fields_of, has_entry, database_of_declaration}
 
 -- which entries there are to be, by the number of the declaration, the key and the id
 abbrev pub Entries : Type 0
@@ -18,7 +18,7 @@ Entries = ℤ → List ℕ → List ℕ → Bool
 -- the document of this id has this key in the index of this declaration, which may be none
 abbrev pub is_due_by : Documents → Option Row → List ℕ → List ℕ → Bool
 is_due_by sees None k id = false
-is_due_by sees (Some d) k id = is_key (key_if_seen (fields_of d) (sees (home_of d) id)) k
+is_due_by sees (Some d) k id = is_key (key_if_seen (fields_of d) (sees (database_of_declaration d) id)) k
 
 -- the same of the declaration of this number: the entries of the declarations of these rows over these documents
 abbrev pub is_due : Documents → List Row → Entries

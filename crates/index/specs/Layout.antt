@@ -8,11 +8,11 @@ use Rattle.sqlite_trees.specs.Tree.{IsAscending}
 use Rattle.sqlite_value.specs.Order.{Row}
 use Rattle.tables.specs.Rows.{number_of}
 use Rattle.tables.specs.Schema.{schema, decls_tree, entries_tree}
-use Rattle.index.specs.Rows.{declaration_of, declaration_row, design_of, entry_id, entry_row, fields_of, fields_text, home_of, index_name_of, key_of}
+use Rattle.index.specs.Rows.{declaration_of, declaration_row, design_of, entry_id, entry_row, fields_of, fields_text, database_of_declaration, index_name_of_row, key_of}
 
 -- the row of a declaration; its fields are paths
 pub record IsDeclarationRow (r : Row) : Type 0 where
-  pub is : r ≡ declaration_row (number_of r) (home_of r) (design_of r) (index_name_of r) (fields_text (fields_of r))
+  pub is : r ≡ declaration_row (number_of r) (database_of_declaration r) (design_of r) (index_name_of_row r) (fields_text (fields_of r))
   pub paths : AllByRecursion (λ path. (is_field_path path ≡ true) × IsUtf8 path) (fields_of r)
 
 -- the row of an entry
@@ -23,7 +23,7 @@ IsEntryRow r = r ≡ entry_row (number_of r) (declaration_of r) (key_of r) (entr
 pub record AreDeclarationRows (rows : List Row) : Type 0 where
   pub each : AllByRecursion IsDeclarationRow rows
   pub rising : IsAscending (λ a b. number_of a <ℤ number_of b) rows
-  pub apart : IsAscending (λ a b. home_of a ≡ home_of b → design_of a ≡ design_of b → index_name_of a ≢ index_name_of b) rows
+  pub apart : IsAscending (λ a b. database_of_declaration a ≡ database_of_declaration b → design_of a ≡ design_of b → index_name_of_row a ≢ index_name_of_row b) rows
 
 -- each row is that of an entry, the numbers rise, and no two rows are of one entry
 pub record AreEntryRows (rows : List Row) : Type 0 where

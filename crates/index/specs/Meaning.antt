@@ -6,7 +6,7 @@ use Rattle.couch_json.specs.Key.{key}
 use Rattle.couch_json.specs.Value.{Value, array}
 use Rattle.sqlite_trees.specs.Tree.{Trees}
 use Rattle.store.specs.Indexes.{declared_fields, field_values, index_fields_of, queried_document}
-use Rattle.tables.specs.Rows.{history_in}
+use Rattle.tables.specs.Rows.{history_in_rows}
 use Rattle.tables.specs.Schema.{revs_tree}
 
 -- the fields of each index, by the number of the database, the design document and the name of the index; none where it is not declared
@@ -19,11 +19,11 @@ Documents = ℤ → List ℕ → Option Value
 
 -- what is stored says these
 abbrev pub declares_in : Trees → Declarations
-declares_in trees db design name = index_fields_of design (history_in (trees revs_tree) db design) name
+declares_in trees db design name = index_fields_of design (history_in_rows (trees revs_tree) db design) name
 
 -- the documents that queries see, as the rows have them
 abbrev pub sees_in : Trees → Documents
-sees_in trees db id = queried_document id (history_in (trees revs_tree) db id)
+sees_in trees db id = queried_document id (history_in_rows (trees revs_tree) db id)
 
 -- ---- keys
 

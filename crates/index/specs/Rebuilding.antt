@@ -21,7 +21,7 @@ use Rattle.index.specs.Rows.{declared_by, design_of, is_at_home}
 use Rattle.index.specs.Shown.{Declared}
 use Rattle.index.specs.Steps.{Steps}
 use Rattle.sqlite_value.specs.Order.{Row, bytes, column}
-use Rattle.tree.specs.ShownDocument.{members_in}
+use Rattle.tree.specs.ShownDocument.{body_members}
 
 -- The indexes of a design document are those that its body declares, where it has one.
 abbrev pub Rebuilds : {S X E : Type 0} → Ghosts S → ℤ → List ℕ → Option Value → Held S → Held S → Result X E → Type 0
@@ -97,7 +97,7 @@ names_of (member name v ms) = name ∷ names_of ms
 
 abbrev pub names_in : Option Value → List (List ℕ)
 names_in None = []
-names_in (Some v) = names_of (members_in v)
+names_in (Some v) = names_of (body_members v)
 
 -- the names under which a body may declare indexes
 abbrev pub declared_names : Option Value → List (List ℕ)

@@ -15,7 +15,7 @@ use Rattle.sqlite_value.specs.declared.value.Value.{Value}
 use Rattle.sqlite_value.specs.declared.value.Value.TheVariants.{Null, Int, Text, Blob}
 use Rattle.store.specs.Indexes.{paths_in}
 use Rattle.tables.specs.Listings.{first_rows, is_between, rows_behind}
-use Rattle.tables.specs.Rows.{has_number, json_in, whole_in}
+use Rattle.tables.specs.Rows.{has_number, json_in_cell, whole_in_cell}
 
 -- ---- declarations: the number stands in the place of the rowid
 
@@ -37,20 +37,20 @@ abbrev pub declaration_row : ℤ → ℤ → List ℕ → List ℕ → List ℕ 
 declaration_row number db design name fields = Int number ∷ declaration_cells db design name fields
 
 -- the database, the design document and the name of the index
-abbrev pub home_of : Row → ℤ
-home_of r = whole_in (column r 2)
+abbrev pub database_of_declaration : Row → ℤ
+database_of_declaration r = whole_in_cell (column r 2)
 
 -- the design document of the index of a row
 abbrev pub design_of : Row → List ℕ
 design_of r = bytes (column r 3)
 
 -- the name of the index of a row
-abbrev pub index_name_of : Row → List ℕ
-index_name_of r = bytes (column r 4)
+abbrev pub index_name_of_row : Row → List ℕ
+index_name_of_row r = bytes (column r 4)
 
 -- the fields that a cell says
 abbrev pub fields_in_cell : Value → List (List ℕ)
-fields_in_cell v = paths_in (items_or_none (items_in (json_in v)))
+fields_in_cell v = paths_in (items_or_none (items_in (json_in_cell v)))
 
 -- the fields of the index of a row
 abbrev pub fields_of : Row → List (List ℕ)
@@ -58,11 +58,11 @@ fields_of r = fields_in_cell (column r 5)
 
 -- the row is that of an index of this database
 abbrev pub is_at_home : ℤ → Row → Bool
-is_at_home db r = int_eq (home_of r) db
+is_at_home db r = int_eq (database_of_declaration r) db
 
 -- the row is that of the index of this name of the design document
 abbrev pub is_declaration_of : ℤ → List ℕ → List ℕ → Row → Bool
-is_declaration_of db design name r = is_at_home db r && (bytes_eq (design_of r) design && bytes_eq (index_name_of r) name)
+is_declaration_of db design name r = is_at_home db r && (bytes_eq (design_of r) design && bytes_eq (index_name_of_row r) name)
 
 -- what a query shows of such a row: the number, the name and the text of the fields
 abbrev pub shown_declaration : Row → Row
@@ -88,7 +88,7 @@ entry_row number declaration k id = Int number ∷ entry_cells declaration k id
 
 -- the number of the declaration, the key, and the id of the document
 abbrev pub declaration_of : Row → ℤ
-declaration_of r = whole_in (column r 1)
+declaration_of r = whole_in_cell (column r 1)
 
 -- the key of an entry
 abbrev pub key_of : Row → List ℕ

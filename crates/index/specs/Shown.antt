@@ -8,7 +8,7 @@ use Rattle.policy.specs.DesignDocuments.{are_paths}
 use Rattle.sqlite_value.specs.Order.{Row, column}
 use Rattle.sqlite_value.specs.declared.value.Value.{Value}
 use Rattle.sqlite_value.specs.declared.value.Value.TheVariants.{Blob, Text}
-use Rattle.tables.specs.Rows.{number_of, whole_in}
+use Rattle.tables.specs.Rows.{number_of, whole_in_cell}
 use Rattle.tables.specs.Shown.{IsWhole}
 use Rattle.index.specs.Rows.{fields_in_cell, fields_of}
 use Rattle.index.specs.declared.declaration.Declaration.{Declaration}
@@ -28,7 +28,7 @@ declared_at r = record { number = number_of r; fields = fields_of r }
 
 -- what a row says that a query shows
 abbrev pub declared_shown : Row → Declared
-declared_shown s = record { number = whole_in (column s 0); fields = fields_in_cell (column s 2) }
+declared_shown s = record { number = whole_in_cell (column s 0); fields = fields_in_cell (column s 2) }
 
 -- the value is a list of paths
 abbrev pub IsPathList : json.Value → Type 0

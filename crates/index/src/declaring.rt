@@ -5,7 +5,7 @@ ghost use Rattle.std.specs.List.{AllByRecursion};
 ghost use Rattle.couch_json.specs.FieldPath.{is_field_path};
 ghost use Rattle.couch_json.specs.Value.{array, text};
 ghost use Rattle.couch_json.specs.View.{items_view, view};
-ghost use Rattle.tables.specs.Calls.{AsksInside, LooksInside, ReadsInside, Stands};
+ghost use Rattle.tables.specs.Calls.{AsksInside, LooksInside, ReadsInside, KeepsConnection};
 ghost use Rattle.sqlite_value.specs.Order as order;
 ghost use Rattle.index.specs.Calls.{IsRefused};
 ghost use Rattle.index.specs.Declaring.{AddsFresh, ArePartly, ClearsIndex, Declares, DeclaresMissing, FindsDeclared, FindsStored};
@@ -220,7 +220,7 @@ fn find_stored<S: Alter>(
     ensures same_reference { tx.new.conn.ghost_name ≡ tx.old.conn.ghost_name }
     ensures finds { FindsStored S.Store db.now design.now name.now tx.old.conn.now tx.new.conn.now result }
     ensures err { IfErr result (IsRefused (AreFit S.Store HasIndexRows tx.old.conn.now tx.new.conn.now)) }
-    ensures stands { Stands S.Store tx.old.conn.now tx.new.conn.now result }
+    ensures stands { KeepsConnection S.Store tx.old.conn.now tx.new.conn.now result }
     ensures looks { LooksInside S.Store tx.old.conn.now tx.new.conn.now }
     ensures asks { AsksInside S.Store tx.old.conn.now tx.new.conn.now }
 {
@@ -239,7 +239,7 @@ fn find_declared<S: Alter>(
     ensures same_reference { tx.new.conn.ghost_name ≡ tx.old.conn.ghost_name }
     ensures finds { FindsDeclared S.Store db.now design.now name.now tx.old.conn.now tx.new.conn.now result }
     ensures err { (d : order.Row) → IfErr result (IsRefused (AreFit S.Store (HasDeclared db.now design.now name.now d) tx.old.conn.now tx.new.conn.now)) }
-    ensures stands { Stands S.Store tx.old.conn.now tx.new.conn.now result }
+    ensures stands { KeepsConnection S.Store tx.old.conn.now tx.new.conn.now result }
     ensures looks { LooksInside S.Store tx.old.conn.now tx.new.conn.now }
     ensures asks { AsksInside S.Store tx.old.conn.now tx.new.conn.now }
 {

@@ -4,7 +4,7 @@ ghost use Rattle.std.specs.Prelude.{◌≡◌, IfErr, IfOk, find, option_map, sl
 ghost use Rattle.std.specs.List.{AllByRecursion};
 ghost use Rattle.sqlite.specs.Held.{state};
 ghost use Rattle.sqlite.specs.State.{HasCleanDisk};
-ghost use Rattle.tables.specs.Calls.{IsServed, Stands};
+ghost use Rattle.tables.specs.Calls.{IsServed, KeepsConnection};
 ghost use Rattle.tables.specs.Schema.{decls_tree, schema};
 ghost use Rattle.tables.specs.Steps.{Asks, OnlyLooks};
 ghost use Rattle.index.specs.Calls.{IsRefused, IsSound};
@@ -32,7 +32,7 @@ pub fn find_decl<S: Alter>(
         (find (is_declaration_of db.now design.now name.now) ((state S.Store conn.old).now.trees decls_tree))) }
     ensures err { IfErr result (IsRefused (IsSound S.Store conn.old conn.new)) }
     ensures served { IsServed S.Store conn.old conn.new result }
-    ensures stands { Stands S.Store conn.old conn.new result }
+    ensures stands { KeepsConnection S.Store conn.old conn.new result }
     ensures looks { conn.old.schema ≡ schema → OnlyLooks (state S.Store conn.old) (state S.Store conn.new) }
     ensures asks { Asks (state S.Store conn.old) (state S.Store conn.new) }
 {

@@ -10,7 +10,7 @@ ghost use Rattle.store.specs.Indexes.{IndexPlace, index_rows};
 ghost use Rattle.store.specs.KeyPages.{key_rows_within};
 ghost use Rattle.store.specs.declared.index_page.KeyRange.{KeyRange};
 ghost use Rattle.tables.specs.Layout.{IsNew, IsStore};
-ghost use Rattle.tables.specs.Rows.{database_of, number_of};
+ghost use Rattle.tables.specs.Rows.{database_of_row, number_of};
 ghost use Rattle.tables.specs.Schema.{decls_tree, entries_tree, revs_tree};
 ghost use Rattle.index.specs.Indexed.{AreIndexed, IsIndexed};
 ghost use Rattle.index.specs.Layout.{HasIndexRows};
@@ -60,7 +60,7 @@ pub fn nothing_declared()
 pub fn entries_are_the_rows_of_an_index()
     ensures { (db : Database) (r d : Row) (design name : List ℕ) → IsStore db → IsIndexed db.trees
         → find (is_declaration_of (number_of r) design name) (db.trees decls_tree) ≡ Some d
-        → AreEntriesAt (number_of d) (index_rows (fields_of d) (database_of db.trees r)) (db.trees entries_tree) }
+        → AreEntriesAt (number_of d) (index_rows (fields_of d) (database_of_row db.trees r)) (db.trees entries_tree) }
 {}
 
 /// What is read of the entries between the bounds of a range is what a page has of them: behind as many

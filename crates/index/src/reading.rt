@@ -6,7 +6,7 @@ ghost use Rattle.couch_json.specs.View.{items_view, view};
 ghost use Rattle.policy.specs.DesignDocuments.{are_paths, is_path};
 ghost use Rattle.sqlite_value.specs.Order.{column};
 ghost use Rattle.store.specs.Indexes.{paths_in};
-ghost use Rattle.tables.specs.Rows.{json_in, whole_in};
+ghost use Rattle.tables.specs.Rows.{json_in_cell, whole_in_cell};
 ghost use Rattle.index.specs.Calls.{IsRefused};
 ghost use Rattle.index.specs.Rows.{fields_in_cell};
 ghost use Rattle.index.specs.Shown.{IsPathList, IsShownDeclaration};
@@ -20,7 +20,7 @@ use tables::{RowFault, json_at, whole_at};
 
 /// Reads the declaration that a row shows.
 pub(crate) fn read_declaration(alloc: Global, row: &Row) -> Result<Declaration, IndexFault>
-    ensures number { IfOk result (λ d. d.number ≡ whole_in (column row.now 0)) }
+    ensures number { IfOk result (λ d. d.number ≡ whole_in_cell (column row.now 0)) }
     ensures fields { IfOk result (λ d. d.fields.items ≡ fields_in_cell (column row.now 2)) }
     ensures err { IfErr result (IsRefused (IsShownDeclaration row.now)) }
 {
@@ -31,7 +31,7 @@ pub(crate) fn read_declaration(alloc: Global, row: &Row) -> Result<Declaration, 
 
 /// Reads the number of the declaration.
 fn read_number(row: &Row) -> Result<i64, IndexFault>
-    ensures ok { IfOk result (λ n. n ≡ whole_in (column row.now 0)) }
+    ensures ok { IfOk result (λ n. n ≡ whole_in_cell (column row.now 0)) }
     ensures err { IfErr result (IsRefused (IsShownDeclaration row.now)) }
 {
     match whole_at(row, 0) {

@@ -5,7 +5,7 @@ ghost use Rattle.std.specs.List.{AllByRecursion};
 ghost use Rattle.couch_json.specs.View.{view};
 ghost use Rattle.sqlite.specs.Held.{state};
 ghost use Rattle.sqlite.specs.State.{HasCleanDisk};
-ghost use Rattle.tables.specs.Calls.{AsksInside, KeepsSchema, LooksInside, Proceeds, Stands};
+ghost use Rattle.tables.specs.Calls.{AsksInside, KeepsSchema, LooksInside, Proceeds, KeepsConnection};
 ghost use Rattle.tables.specs.Schema.{decls_tree, schema};
 ghost use Rattle.index.specs.Calls.{FollowsAll, StaysOpen, IsRefused, IsSound, Refreshes, ReplacesKey};
 ghost use Rattle.index.specs.Layout.{HasIndexRows};
@@ -55,7 +55,7 @@ pub fn list_declarations<S: Alter>(
     ensures ok { HasCleanDisk (state S.Store tx.new.conn.now) → HasIndexRows (state S.Store tx.old.conn.now).now
         → IfOk result (λ ds. map declared ds.items ≡ map declared_at (filter (is_at_home db.now) ((state S.Store tx.old.conn.now).now.trees decls_tree))) }
     ensures err { IfErr result (IsRefused (IsSound S.Store tx.old.conn.now tx.new.conn.now)) }
-    ensures stands { Stands S.Store tx.old.conn.now tx.new.conn.now result }
+    ensures stands { KeepsConnection S.Store tx.old.conn.now tx.new.conn.now result }
     ensures looks { LooksInside S.Store tx.old.conn.now tx.new.conn.now }
     ensures asks { AsksInside S.Store tx.old.conn.now tx.new.conn.now }
 {

@@ -4,7 +4,7 @@ ghost use Rattle.std.specs.Prelude.{◌≡◌, ◌∷◌, [], IfErr, IfOk, map, 
 ghost use Rattle.std.specs.List.{AllByRecursion};
 ghost use Rattle.couch_json.specs.View.{view};
 ghost use Rattle.sqlite_value.specs.Order as order;
-ghost use Rattle.tables.specs.Calls.{AsksInside, LooksInside, ReadsInside, Stands};
+ghost use Rattle.tables.specs.Calls.{AsksInside, LooksInside, ReadsInside, KeepsConnection};
 ghost use Rattle.tables.specs.Layout.{IsStore};
 ghost use Rattle.tables.specs.Listings.{IsListedDocument, is_between};
 ghost use Rattle.tables.specs.Rows.{listed_document};
@@ -38,7 +38,7 @@ pub(crate) fn find_bound<S: Alter>(
     ensures same_reference { tx.new.conn.ghost_name ≡ tx.old.conn.ghost_name }
     ensures within { IfOk result (λ bound. IsCut low.now high.now bound.items) }
     ensures err { IfErr result (IsRefused ⊤) }
-    ensures stands { Stands S.Store tx.old.conn.now tx.new.conn.now result }
+    ensures stands { KeepsConnection S.Store tx.old.conn.now tx.new.conn.now result }
     ensures looks { LooksInside S.Store tx.old.conn.now tx.new.conn.now }
     ensures asks { AsksInside S.Store tx.old.conn.now tx.new.conn.now }
 {
@@ -130,7 +130,7 @@ pub(crate) fn find_live<S: Alter>(
     ensures same_reference { tx.new.conn.ghost_name ≡ tx.old.conn.ghost_name }
     ensures finds { FindsLive S.Store db.now listed.now tx.old.conn.now tx.new.conn.now result }
     ensures err { (d : order.Row) → IfErr result (IsRefused (IsSoundLive S.Store db.now listed.now d tx.old.conn.now tx.new.conn.now)) }
-    ensures stands { Stands S.Store tx.old.conn.now tx.new.conn.now result }
+    ensures stands { KeepsConnection S.Store tx.old.conn.now tx.new.conn.now result }
     ensures looks { LooksInside S.Store tx.old.conn.now tx.new.conn.now }
     ensures asks { AsksInside S.Store tx.old.conn.now tx.new.conn.now }
 {

@@ -8,33 +8,33 @@ use Rattle.couch_http.specs.Reply.{Reply}
 use Rattle.policy.specs.Security.{is_member}
 use Rattle.store.specs.Contents.{Contents}
 use Rattle.node.specs.Answer.{Outcome, answer, with_change}
-use Rattle.node.specs.Hidden.{AreAlike, AreHidden, Group, Names, is_into, is_of_others, is_spared, is_struck}
-use Rattle.node.specs.Runs.{AreServed, IsRun, IsServed, Stepped, Steps, messages_of}
+use Rattle.node.specs.Hidden.{AreAlike, AreHidden, CallerGroup, Names, is_into, is_of_others, is_spared, is_struck}
+use Rattle.node.specs.Runs.{AreServed, IsRun, IsServedReply, Stepped, Steps, messages_of}
 use Rattle.node.specs.Step.{IsDone, reply_to}
 use Rattle.node.proofs.Hiding.{alike_itself, alike_turned, answer_hidden, answer_stays, answer_struck, hidden_alike}
 use Rattle.node.proofs.Steps.{step_done}
 use Rattle.isolation.specs.Isolated.{IsolatedCaller, IsolatedWhenAlike, IsolatedWhenStruck}
-use Rattle.isolation.specs.Struck.{AreHiddenFrom, AreHiddenFromThroughout, AreHiddenThroughout, are_same_roles, is_same_name, only, replies_to, struck, unless}
+use Rattle.isolation.specs.Struck.{AreHiddenFrom, AreHiddenFromThroughout, AreHiddenThroughout, are_same_roles, is_same_name, only, replies_to, struck, element_unless}
 
 -- a struck request is one of others
 of_others : (others into spared : Bool) → (others && (into && not spared)) ≡ true → others ≡ true
 of_others true into spared e = refl
 of_others false into spared e = absurd cc
 
-module _ (c : Configuration) (group : Group) (names : Names) where
+module _ (c : Configuration) (group : CallerGroup) (names : Names) where
   -- ---- what is told, by the answers alone
 
   -- the replies to the group among the answers to these requests
   abbrev told : Contents → List Message → List Reply
   told a [] = []
-  told a (m ∷ ms) = unless (is_of_others c group m) (reply_to (answer c a m) m.last) (told (with_change (answer c a m).change a) ms)
+  told a (m ∷ ms) = element_unless (is_of_others c group m) (reply_to (answer c a m) m.last) (told (with_change (answer c a m).change a) ms)
 
   -- the databases are hidden at each state on the way
   abbrev AreHiddenAlong : Contents → List Message → Type 0
   AreHiddenAlong a [] = AreHidden group names a
   AreHiddenAlong a (m ∷ ms) = AreHidden group names a × AreHiddenAlong (with_change (answer c a m).change a) ms
 
-  done : (a : Contents) (s : Stepped Contents) → Steps c a s.message s.reply s.after → IsServed s.reply → IsDone (answer c a s.message) s.message.last a s.reply s.after
+  done : (a : Contents) (s : Stepped Contents) → Steps c a s.message s.reply s.after → IsServedReply s.reply → IsDone (answer c a s.message) s.message.last a s.reply s.after
   done a s step served = step_done c a s.message (λ _. ⊤) s.reply s.after step served
 
   -- a step of a run from a state, by what it does to a state like it
@@ -57,7 +57,7 @@ module _ (c : Configuration) (group : Group) (names : Names) where
       d = done a s run.0 served.0
 
       by : (is : Bool) → is_struck c group names s.message ≡ is → ((x : Contents) → AreAlike names s.after x → AreHiddenAlong x (struck c group names (messages_of ss)))
-          → AreHiddenAlong b (unless is s.message (struck c group names (messages_of ss)))
+          → AreHiddenAlong b (element_unless is s.message (struck c group names (messages_of ss)))
       by true is rest = rest b (after_struck a b s like is d)
       by false is rest = (hidden_alike group names a b like hidden.0, rest (with_change (answer c b s.message).change b) (after_stays a b s like hidden.0 is d))
 
@@ -71,18 +71,18 @@ module _ (c : Configuration) (group : Group) (names : Names) where
       d : IsDone (answer c a s.message) s.message.last a s.reply s.after
       d = done a s run.0 served.0
 
-      by : (is : Bool) → is_struck c group names s.message ≡ is → AreHiddenAlong b (unless is s.message (struck c group names (messages_of ss)))
+      by : (is : Bool) → is_struck c group names s.message ≡ is → AreHiddenAlong b (element_unless is s.message (struck c group names (messages_of ss)))
           → ((x : Contents) → AreAlike names s.after x → AreHiddenAlong x (struck c group names (messages_of ss)) → replies_to c group ss ≡ told x (struck c group names (messages_of ss)))
-          → unless (is_of_others c group s.message) s.reply (replies_to c group ss) ≡ told b (unless is s.message (struck c group names (messages_of ss)))
+          → element_unless (is_of_others c group s.message) s.reply (replies_to c group ss) ≡ told b (element_unless is s.message (struck c group names (messages_of ss)))
       by true is along rest =
-          ap (λ (o : Bool). unless o s.reply (replies_to c group ss)) (of_others (is_of_others c group s.message) (is_into names s.message) (is_spared s.message) is)
+          ap (λ (o : Bool). element_unless o s.reply (replies_to c group ss)) (of_others (is_of_others c group s.message) (is_into names s.message) (is_spared s.message) is)
           ∙ rest b (after_struck a b s like is d) along
       by false is along rest =
           let hidden_a : AreHidden group names a = hidden_alike group names b a (alike_turned names a b like) along.0 in
           let reply : s.reply ≡ reply_to (answer c b s.message) s.message.last =
           d.0 ∙ ap (λ (o : Outcome). reply_to o s.message.last) (answer_hidden c group names a b s.message like hidden_a is) in
-          ap (λ (r : Reply). unless (is_of_others c group s.message) r (replies_to c group ss)) reply
-          ∙ ap (λ (rs : List Reply). unless (is_of_others c group s.message) (reply_to (answer c b s.message) s.message.last) rs)
+          ap (λ (r : Reply). element_unless (is_of_others c group s.message) r (replies_to c group ss)) reply
+          ∙ ap (λ (rs : List Reply). element_unless (is_of_others c group s.message) (reply_to (answer c b s.message) s.message.last) rs)
           (rest (with_change (answer c b s.message).change b) (after_stays a b s like hidden_a is d) along.1)
 
   -- ---- striking
@@ -92,9 +92,9 @@ module _ (c : Configuration) (group : Group) (names : Names) where
   struck_again (m ∷ ms) = by (is_struck c group names m) refl (struck_again ms)
     where
       by : (is : Bool) → is_struck c group names m ≡ is → struck c group names (struck c group names ms) ≡ struck c group names ms
-          → struck c group names (unless is m (struck c group names ms)) ≡ unless is m (struck c group names ms)
+          → struck c group names (element_unless is m (struck c group names ms)) ≡ element_unless is m (struck c group names ms)
       by true is rest = rest
-      by false is rest = ap (λ (b : Bool). unless b m (struck c group names (struck c group names ms))) is ∙ ap (λ (xs : List Message). m ∷ xs) rest
+      by false is rest = ap (λ (b : Bool). element_unless b m (struck c group names (struck c group names ms))) is ∙ ap (λ (xs : List Message). m ∷ xs) rest
 
 -- ---- runs
 

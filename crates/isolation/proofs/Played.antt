@@ -8,16 +8,17 @@ use Rattle.store.specs.Contents.{Contents}
 use Rattle.node.specs.Runs.{IsRun, Stepped, Steps, end_of}
 use Rattle.node.specs.Step.{Serving}
 use Rattle.hub.specs.Arrival.{Arrival, fault_on, request_on}
-use Rattle.repl.specs.Passes.{Asked, Pass, to_source, to_target, done, stopped_by, asked_of}
-use Rattle.world.specs.Exchanging.{IsAsked, IsCarried}
+use Rattle.repl.specs.Passes.{Asked, to_source, to_target, done, stopped_by, asked_of}
+use Rattle.repl.specs.Turns.{Turn}
+use Rattle.world.specs.Exchanging.{IsAsked, IsCarried, Question, status_of_turn}
 use Rattle.world.specs.Happening.{Happening, Sight, comes, exchanges, exchanged, ended, replied}
-use Rattle.world.specs.Network.{Network, Transfer, home_of}
+use Rattle.world.specs.Network.{Network, Transfer, node_of_connection}
 use Rattle.world.specs.Playing.{Happens, Plays, all_replied}
-use Rattle.world.specs.Service.{Asker, IsAnswered, IsHandled, IsService, SeenReply, by_pass, on_connection}
+use Rattle.world.specs.Service.{Asker, IsAnswered, IsHandled, IsService, SeenReply, alike, by_pass, on_connection}
 use Rattle.world.specs.declared.fate.Fate.{Fate}
 use Rattle.world.specs.declared.fate.Fate.TheVariants.{Answered, ReplyLost, RequestLost}
 use Rattle.isolation.specs.Isolated.{IsolatedInPlays, NodesRun, PlaysAreTurns}
-use Rattle.isolation.specs.Turns.{AreTurns, Handled, IsHandledAs, IsShown, IsStepAt, Turn, sights_in, steps_at, with_handled, with_step}
+use Rattle.isolation.specs.Turns.{AreTurns, HandledStep, IsHandledAs, IsShown, IsStepAt, SeenTurn, sights_in, steps_at, with_handled, with_step}
 use Rattle.isolation.proofs.Isolations.{isolated_alike}
 
 abbrev Nodes : Type 0
@@ -27,21 +28,21 @@ Nodes = List (Serving Contents)
 
 -- turns from some nodes to others, which show this
 record IsMadeOfTurns (old : Nodes) (seen : List Sight) (new : Nodes) : Type 0 where
-  turns : List Turn
+  turns : List SeenTurn
   shown : seen ≡ sights_in turns
   are : AreTurns old turns new
 
 no_turns : (old new : Nodes) (seen : List Sight) → seen ≡ [] → new ≡ old → IsMadeOfTurns old seen new
 no_turns old new seen none same = record { turns = []; shown = none; are = same }
 
-one_turn : (old new : Nodes) (seen : List Sight) (t : Turn) → seen ≡ t.sight ∷ [] → IsHandledAs old t.sight t.handled new → IsMadeOfTurns old seen new
+one_turn : (old new : Nodes) (seen : List Sight) (t : SeenTurn) → seen ≡ t.sight ∷ [] → IsHandledAs old t.sight t.handled new → IsMadeOfTurns old seen new
 one_turn old new seen t one handled = record { turns = t ∷ []; shown = one; are = (new, handled, refl) }
 
-turns_then : (a b c : Nodes) (ts us : List Turn) → AreTurns a ts b → AreTurns b us c → AreTurns a (ts ++ us) c
+turns_then : (a b c : Nodes) (ts us : List SeenTurn) → AreTurns a ts b → AreTurns b us c → AreTurns a (ts ++ us) c
 turns_then a b c [] us p q = subst (λ (x : Nodes). AreTurns x us c) p q
 turns_then a b c (t ∷ ts) us (between, here, later) q = (between, here, turns_then between b c ts us later q)
 
-sights_then : (ts us : List Turn) → sights_in (ts ++ us) ≡ sights_in ts ++ sights_in us
+sights_then : (ts us : List SeenTurn) → sights_in (ts ++ us) ≡ sights_in ts ++ sights_in us
 sights_then [] us = refl
 sights_then (t ∷ ts) us = ap (λ (ss : List Sight). t.sight ∷ ss) (sights_then ts us)
 
@@ -65,45 +66,45 @@ handled_turn old new place m r who sight seen one shown h =
 same_seen : (t : SeenReply) (conn : ℕ) → t.conn ≡ conn → replied t ≡ replied (record { conn = conn; reply = t.reply })
 same_seen t conn e = λ i. replied (record { conn = e i; reply = t.reply })
 
-answered_turn : (homes : List ℕ) (old new : Nodes) (a : Arrival) (t : SeenReply) → IsAnswered Steps homes old a t new → IsMadeOfTurns old (replied t ∷ []) new
-answered_turn homes old new (request_on conn m) t p = handled_turn old new (home_of homes conn) m t.reply (on_connection conn) (replied t) (replied t ∷ []) refl (same_seen t conn p.0) p.1
+answered_turn : (homes : List ℕ) (old new : Nodes) (a : Arrival) (t : SeenReply) → IsAnswered (alike Steps) homes old a t new → IsMadeOfTurns old (replied t ∷ []) new
+answered_turn homes old new (request_on conn m) t p = handled_turn old new (node_of_connection homes conn) m t.reply (on_connection conn) (replied t) (replied t ∷ []) refl (same_seen t conn p.0) p.1
 answered_turn homes old new (fault_on conn f) t p = one_turn old new (replied t ∷ []) (record { sight = replied t; handled = None }) refl ((f, p.1), p.2)
 
-service_turns : (homes : List ℕ) (old new : Nodes) (xs : List Arrival) (ts : List SeenReply) → IsService Steps homes old xs ts new → IsMadeOfTurns old (all_replied ts) new
+service_turns : (homes : List ℕ) (old new : Nodes) (xs : List Arrival) (ts : List SeenReply) → IsService (alike Steps) homes old xs ts new → IsMadeOfTurns old (all_replied ts) new
 service_turns homes old new [] [] p = no_turns old new [] refl p
 service_turns homes old new [] (t ∷ ts) p = absurd p
 service_turns homes old new (x ∷ xs) [] p = absurd p
 service_turns homes old new (x ∷ xs) (t ∷ ts) p =
     made_then old p.0 new (replied t ∷ []) (all_replied ts) (all_replied (t ∷ ts)) (answered_turn homes old p.0 x t p.1) (service_turns homes p.0 new xs ts p.2) refl
 
-carried_turn : (number : ℕ) (fate : Fate) (old new : Nodes) (place : ℕ) (m : Message) (before : Pass) (status : ℕ) (after : Pass) (is_to_target : Bool) (seen : List Sight)
-    → seen ≡ exchanged number is_to_target m status ∷ [] → IsCarried Steps fate old place m before status new after → IsMadeOfTurns old seen new
-carried_turn number Answered old new place m before status after is_to_target seen one c =
-    handled_turn old new place m c.reply (by_pass number Answered) (exchanged number is_to_target m status) seen one
-    (is_to_target, ap (exchanged number is_to_target m) c.outcome.0) c.handled
-carried_turn number ReplyLost old new place m before status after is_to_target seen one c =
-    handled_turn old new place m c.reply (by_pass number ReplyLost) (exchanged number is_to_target m status) seen one
-    (is_to_target, ap (exchanged number is_to_target m) c.outcome.0) c.handled
-carried_turn number RequestLost old new place m before status after is_to_target seen one c =
-    one_turn old new seen (record { sight = exchanged number is_to_target m status; handled = None }) one (c.1.0, c.0)
+carried_turn : (fate : Fate) (old new : Nodes) (q : Question) (t : Turn) (seen : List Sight)
+    → seen ≡ exchanged q.number q.is_to_target q.message (status_of_turn t) ∷ [] → IsCarried (alike Steps) fate old q t new → IsMadeOfTurns old seen new
+carried_turn Answered old new q t seen one c =
+    handled_turn old new q.place q.message c.0 (by_pass q.number Answered) (exchanged q.number q.is_to_target q.message (status_of_turn t)) seen one
+    (q.is_to_target, ap (λ (x : Turn). exchanged q.number q.is_to_target q.message (status_of_turn x)) c.2) c.1
+carried_turn ReplyLost old new q t seen one c =
+    handled_turn old new q.place q.message c.0 (by_pass q.number ReplyLost) (exchanged q.number q.is_to_target q.message (status_of_turn t)) seen one
+    (q.is_to_target, ap (λ (x : Turn). exchanged q.number q.is_to_target q.message (status_of_turn x)) c.2) c.1
+carried_turn RequestLost old new q t seen one c =
+    one_turn old new seen (record { sight = exchanged q.number q.is_to_target q.message (status_of_turn t); handled = None }) one (ap status_of_turn c.1, c.0)
 
-asked_turn : (fate : Fate) (old new : Network Contents) (number : ℕ) (t : Transfer) (asked : Asked) (seen : List Sight) → IsAsked Steps fate old number t asked seen new
+asked_turn : (fate : Fate) (old new : Network Contents) (number : ℕ) (t : Transfer) (asked : Asked) (seen : List Sight) → IsAsked (alike Steps) fate old number t asked seen new
     → IsMadeOfTurns old.nodes seen new.nodes
 asked_turn fate old new number t (to_source m) seen p =
-    subst (λ (x : Network Contents). IsMadeOfTurns old.nodes seen x.nodes) (sym p.left) (carried_turn number fate old.nodes p.nodes t.from m t.pass p.status p.after false seen p.sight p.carried)
+    subst (λ (x : Network Contents). IsMadeOfTurns old.nodes seen x.nodes) (sym p.left) (carried_turn fate old.nodes p.nodes _ p.turn seen p.sight p.carried)
 asked_turn fate old new number t (to_target m) seen p =
-    subst (λ (x : Network Contents). IsMadeOfTurns old.nodes seen x.nodes) (sym p.left) (carried_turn number fate old.nodes p.nodes t.to m t.pass p.status p.after true seen p.sight p.carried)
+    subst (λ (x : Network Contents). IsMadeOfTurns old.nodes seen x.nodes) (sym p.left) (carried_turn fate old.nodes p.nodes _ p.turn seen p.sight p.carried)
 asked_turn fate old new number t (done s) seen p =
     one_turn old.nodes new.nodes seen (record { sight = ended number (done s); handled = None }) p.0 (tt, ap (λ (x : Network Contents). x.nodes) p.1)
 asked_turn fate old new number t (stopped_by why s) seen p =
     one_turn old.nodes new.nodes seen (record { sight = ended number (stopped_by why s); handled = None }) p.0 (tt, ap (λ (x : Network Contents). x.nodes) p.1)
 
-event_turns : (old new : Network Contents) (h : Happening) (seen : List Sight) → Happens Steps old h seen new → IsMadeOfTurns old.nodes seen new.nodes
+event_turns : (old new : Network Contents) (h : Happening) (seen : List Sight) → Happens (alike Steps) old h seen new → IsMadeOfTurns old.nodes seen new.nodes
 event_turns old new (comes piece) seen (told, played, same) =
     subst (λ (xs : List Sight). IsMadeOfTurns old.nodes xs new.nodes) (sym same) (service_turns old.homes old.nodes new.nodes played.arrivals told played.served)
 event_turns old new (exchanges number fate) seen p = asked_turn fate old new number p.transfer (asked_of p.transfer.pass) seen p.asked
 
-play_turns : (old new : Network Contents) (hs : List Happening) (seen : List Sight) → Plays Steps old hs seen new → IsMadeOfTurns old.nodes seen new.nodes
+play_turns : (old new : Network Contents) (hs : List Happening) (seen : List Sight) → Plays (alike Steps) old hs seen new → IsMadeOfTurns old.nodes seen new.nodes
 play_turns old new [] seen p = no_turns old.nodes new.nodes seen p.0 (ap (λ (x : Network Contents). x.nodes) p.1)
 play_turns old new (h ∷ hs) seen (first, others, between, here, later, order) =
     made_then old.nodes between.nodes new.nodes first others seen (event_turns old between h first here) (play_turns between new hs others later) order
@@ -134,7 +135,7 @@ record GoesThrough (node : Serving Contents) (steps : List (Stepped Contents)) (
   ends : slice_get new place ≡ Some (record node { store = end_of node.store steps })
 
 -- by a step of this node, or of another
-goes_by : (old between new : Nodes) (h : Handled) (place : ℕ) (node : Serving Contents) (ss : List (Stepped Contents)) (is : Bool) → (h.place == place) ≡ is → slice_get old place ≡ Some node
+goes_by : (old between new : Nodes) (h : HandledStep) (place : ℕ) (node : Serving Contents) (ss : List (Stepped Contents)) (is : Bool) → (h.place == place) ≡ is → slice_get old place ≡ Some node
     → IsStepAt old h between → ((next : Serving Contents) → slice_get between place ≡ Some next → GoesThrough next ss new place) → GoesThrough node (with_step is h.step ss) new place
 goes_by old between new h place node ss true is there s rest =
     let at : h.place ≡ place = eqb-true h.place place is in
@@ -149,11 +150,11 @@ goes_by old between new h place node ss false is there s rest =
     let apart : place ≢ h.place = λ e. let k : true ≡ false = sym (eq-eqb h.place place (sym e)) ∙ is in cc in
     rest node (ap (λ (xs : Nodes). slice_get xs place) s.left ∙ set_elsewhere old h.place place next apart ∙ there)
 
-goes : (old new : Nodes) (turns : List Turn) (place : ℕ) (node : Serving Contents) → AreTurns old turns new → slice_get old place ≡ Some node → GoesThrough node (steps_at place turns) new place
+goes : (old new : Nodes) (turns : List SeenTurn) (place : ℕ) (node : Serving Contents) → AreTurns old turns new → slice_get old place ≡ Some node → GoesThrough node (steps_at place turns) new place
 goes old new [] place node p there = record { run = tt; ends = ap (λ (xs : Nodes). slice_get xs place) p ∙ there }
 goes old new (t ∷ ts) place node (between, here, later) there = by t.handled here (λ next at. goes between new ts place next later at)
   where
-    by : (o : Option Handled) → IsHandledAs old t.sight o between → ((next : Serving Contents) → slice_get between place ≡ Some next → GoesThrough next (steps_at place ts) new place)
+    by : (o : Option HandledStep) → IsHandledAs old t.sight o between → ((next : Serving Contents) → slice_get between place ≡ Some next → GoesThrough next (steps_at place ts) new place)
         → GoesThrough node (with_handled place o (steps_at place ts)) new place
     by None h rest = rest node (ap (λ (xs : Nodes). slice_get xs place) h.1 ∙ there)
     by (Some h) k rest = goes_by old between new h place node (steps_at place ts) (h.place == place) refl there k.1 rest

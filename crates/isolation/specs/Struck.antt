@@ -8,26 +8,26 @@ use Rattle.couch_http.specs.Reply.{Reply}
 use Rattle.policy.specs.Security.{is_member}
 use Rattle.store.specs.Contents.{Contents}
 use Rattle.store.specs.Database.{Database}
-use Rattle.node.specs.Hidden.{AreHidden, Group, Names, is_of_others, is_struck}
+use Rattle.node.specs.Hidden.{AreHidden, CallerGroup, Names, is_of_others, is_struck}
 use Rattle.node.specs.Runs.{Stepped}
 
 -- an element that may be left out
-abbrev pub unless : {A : Type 0} → Bool → A → List A → List A
-unless true x xs = xs
-unless false x xs = x ∷ xs
+abbrev pub element_unless : {A : Type 0} → Bool → A → List A → List A
+element_unless true x xs = xs
+element_unless false x xs = x ∷ xs
 
 -- the requests without those of others on these databases
-abbrev pub struck : Configuration → Group → Names → List Message → List Message
+abbrev pub struck : Configuration → CallerGroup → Names → List Message → List Message
 struck c group names [] = []
-struck c group names (m ∷ ms) = unless (is_struck c group names m) m (struck c group names ms)
+struck c group names (m ∷ ms) = element_unless (is_struck c group names m) m (struck c group names ms)
 
 -- what the group is told: the replies to all requests but those of others
-abbrev pub replies_to : Configuration → Group → List (Stepped Contents) → List Reply
+abbrev pub replies_to : Configuration → CallerGroup → List (Stepped Contents) → List Reply
 replies_to c group [] = []
-replies_to c group (s ∷ ss) = unless (is_of_others c group s.message) s.reply (replies_to c group ss)
+replies_to c group (s ∷ ss) = element_unless (is_of_others c group s.message) s.reply (replies_to c group ss)
 
 -- none of the group is a member of any of these databases, before the first step and after each
-abbrev pub AreHiddenThroughout : Group → Names → Contents → List (Stepped Contents) → Type 0
+abbrev pub AreHiddenThroughout : CallerGroup → Names → Contents → List (Stepped Contents) → Type 0
 AreHiddenThroughout group names before [] = AreHidden group names before
 AreHiddenThroughout group names before (s ∷ ss) = AreHidden group names before × AreHiddenThroughout group names s.after ss
 
@@ -48,7 +48,7 @@ are_same_roles (r ∷ rs) [] = false
 are_same_roles (r ∷ rs) (o ∷ os) = bytes_eq r o && are_same_roles rs os
 
 -- the group of this caller alone, who has this name and these roles
-abbrev pub only : Identity → Group
+abbrev pub only : Identity → CallerGroup
 only who caller = is_same_name who.name caller.name && are_same_roles who.roles caller.roles
 
 -- the caller is no member of any of these databases, where they are there

@@ -14,15 +14,15 @@ use Rattle.world.specs.Service.{Asker, on_connection, by_pass}
 use Rattle.world.specs.declared.fate.Fate.TheVariants.{Answered, ReplyLost, RequestLost}
 
 -- a request that a node handled: who asked, the number of the node, and its step
-pub record Handled : Type 0 where
+pub record HandledStep : Type 0 where
   pub who : Asker
   pub place : ℕ
   pub step : Stepped Contents
 
 -- something that is seen, and the request that a node handled for it, if there was one
-pub record Turn : Type 0 where
+pub record SeenTurn : Type 0 where
   pub sight : Sight
-  pub handled : Option Handled
+  pub handled : Option HandledStep
 
 -- what is seen of a request: its reply on its connection; or, of a pass that asked, the reply's status, or 0 where the reply was lost
 abbrev pub IsShown : Asker → Message → Reply → Sight → Type 0
@@ -38,24 +38,24 @@ IsShownAlone (exchanged number is_to_target m status) = status ≡ 0
 IsShownAlone (ended number asked) = ⊤
 
 -- the node of this number makes the step, and the others stay as they are
-pub record IsStepAt (old : List (Serving Contents)) (h : Handled) (new : List (Serving Contents)) : Type 0 where
+pub record IsStepAt (old : List (Serving Contents)) (h : HandledStep) (new : List (Serving Contents)) : Type 0 where
   pub node : Serving Contents
   pub there : slice_get old h.place ≡ Some node
   pub stepped : Steps node.configuration node.store h.step.message h.step.reply h.step.after
   pub left : new ≡ slice_set old h.place (record node { store = h.step.after })
 
 -- what is seen is a reply of the node that handled the request, or nothing of any node
-abbrev pub IsHandledAs : List (Serving Contents) → Sight → Option Handled → List (Serving Contents) → Type 0
+abbrev pub IsHandledAs : List (Serving Contents) → Sight → Option HandledStep → List (Serving Contents) → Type 0
 IsHandledAs old sight None new = IsShownAlone sight × (new ≡ old)
 IsHandledAs old sight (Some h) new = IsShown h.who h.step.message h.step.reply sight × IsStepAt old h new
 
 -- one turn after another, and the nodes after them
-abbrev pub AreTurns : List (Serving Contents) → List Turn → List (Serving Contents) → Type 0
+abbrev pub AreTurns : List (Serving Contents) → List SeenTurn → List (Serving Contents) → Type 0
 AreTurns old [] new = new ≡ old
 AreTurns old (t ∷ ts) new = (between : List (Serving Contents)) × IsHandledAs old t.sight t.handled between × AreTurns between ts new
 
 -- all that is seen of turns
-abbrev pub sights_in : List Turn → List Sight
+abbrev pub sights_in : List SeenTurn → List Sight
 sights_in turns = map (λ t. t.sight) turns
 
 -- the steps with one more, where it counts
@@ -64,11 +64,11 @@ with_step true s ss = s ∷ ss
 with_step false s ss = ss
 
 -- the steps with that of a turn, where it was one of this node
-abbrev pub with_handled : ℕ → Option Handled → List (Stepped Contents) → List (Stepped Contents)
+abbrev pub with_handled : ℕ → Option HandledStep → List (Stepped Contents) → List (Stepped Contents)
 with_handled place None ss = ss
 with_handled place (Some h) ss = with_step (h.place == place) h.step ss
 
 -- the steps of the node of this number
-abbrev pub steps_at : ℕ → List Turn → List (Stepped Contents)
+abbrev pub steps_at : ℕ → List SeenTurn → List (Stepped Contents)
 steps_at place [] = []
 steps_at place (t ∷ ts) = with_handled place t.handled (steps_at place ts)

@@ -12,7 +12,7 @@ use Rattle.world.specs.declared.fate.Fate.{Fate}
 use Rattle.lab.specs.Naming.{NamedValue, value_named}
 use Rattle.lab.specs.PassLines.{PassWords}
 use Rattle.lab.specs.Replies.{IsShown}
-use Rattle.lab.specs.Scene.{BeginsWith, Closes, Exchanges, HasPlayed, NamedNetwork, Opens, Plays, PlaysAll, PlaysBefore, PlaysScript, Scene, Sends, Starts, Turns, laying, running, first_network}
+use Rattle.lab.specs.Scene.{BeginsWith, Closes, Exchanges, HasPlayed, NamedNetwork, Opens, Plays, PlaysAll, PlaysBefore, PlaysScript, Scene, Sends, Starts, TakesTurn, laying, running, first_network}
 use Rattle.lab.specs.Script.{ScriptLine, close_line, conn_line, line_of, repl_line, send_line, turn_line}
 use Rattle.lab.specs.declared.turn.Turn.{Turn}
 use Rattle.lab.specs.Stages.{AreBytesPlayed, IsLinePlayed}
@@ -124,12 +124,12 @@ pub exchanges_of : {S : Type 0} (g : Ghosts S) (before after : NamedNetwork S) (
     → after ≡ record before { network = after.network } → Exchanges g before name fate printed after
 exchanges_of g before after name number fate seen printed named shown same = (number, named, (seen, after.network, shown, same))
 
-pub turned : {S : Type 0} (g : Ghosts S) (turn kind : Turn) (before after : NamedNetwork S) (name printed : List ℕ) → turn ≡ kind → Turns g kind before name printed after
-    → Turns g turn before name printed after
-turned g turn kind before after name printed same p = subst (λ (t : Turn). Turns g t before name printed after) (sym same) p
+pub turned : {S : Type 0} (g : Ghosts S) (turn kind : Turn) (before after : NamedNetwork S) (name printed : List ℕ) → turn ≡ kind → TakesTurn g kind before name printed after
+    → TakesTurn g turn before name printed after
+turned g turn kind before after name printed same p = subst (λ (t : Turn). TakesTurn g t before name printed after) (sym same) p
 
 pub plays_turn : {S : Type 0} (g : Ghosts S) (c : Configuration) (names : NamedNetwork S) (line : ScriptLine) (turn : Turn) (name printed : List ℕ) (after : NamedNetwork S)
-    → line ≡ turn_line turn name → Turns g turn names name printed after → Plays g c (running names) line printed (running after)
+    → line ≡ turn_line turn name → TakesTurn g turn names name printed after → Plays g c (running names) line printed (running after)
 plays_turn g c names line turn name printed after same p = subst (λ (l : ScriptLine). Plays g c (running names) l printed (running after)) (sym same) (after, p, refl)
 
 pub plays_conn : {S : Type 0} (g : Ghosts S) (c : Configuration) (names : NamedNetwork S) (line : ScriptLine) (node name : List ℕ) (after : NamedNetwork S)

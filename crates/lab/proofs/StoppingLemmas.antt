@@ -9,7 +9,7 @@ use Rattle.store.specs.declared.store.Store.{Ghosts}
 use Rattle.world.specs.Network.{Network}
 use Rattle.lab.specs.Naming.{NamedValue, numbers_from, value_named, with_named}
 use Rattle.lab.specs.PassLines.{PassWords}
-use Rattle.lab.specs.Scene.{AddsDatabase, AddsNode, Closes, NamedNetwork, Opens, Plays, Scene, Sends, Starts, Turns, first_network, laying, open_database, running}
+use Rattle.lab.specs.Scene.{AddsDatabase, AddsNode, Closes, NamedNetwork, Opens, Plays, Scene, Sends, Starts, TakesTurn, first_network, laying, open_database, running}
 use Rattle.lab.specs.Script.{ScriptLine, node_line, public_line, conn_line, send_line, close_line, repl_line, turn_line}
 use Rattle.lab.specs.declared.turn.Turn.{Turn}
 use Rattle.lab.specs.declared.turn.Turn.TheVariants.{Step, Lose, Unsent, Run}
@@ -304,7 +304,7 @@ follows_close g before after name q = record {
   names = same_network g before after _ q.2;
 }
 
-follows_turn : {S : Type 0} (g : Ghosts S) (turn : Turn) (before after : NamedNetwork S) (name printed : List ℕ) → Turns g turn before name printed after
+follows_turn : {S : Type 0} (g : Ghosts S) (turn : Turn) (before after : NamedNetwork S) (name printed : List ℕ) → TakesTurn g turn before name printed after
     → IsFollowed g (names_in g (running before)) (turn_line turn name) (running after)
 follows_turn g Step before after name printed q = record {
   can = can_turn-is (names_in g (running before)) before (names_running g before) Step name ∙ ap is_some q.1;
@@ -381,7 +381,7 @@ closes_has_nodes {S} before after name q p =
 pub sends_nodes : {S : Type 0} (g : Ghosts S) (before after : NamedNetwork S) (name bytes printed : List ℕ) → Sends g before name bytes printed after → after.nodes ≡ before.nodes
 sends_nodes {S} g before after name bytes printed q = ap (λ (n : NamedNetwork S). n.nodes) q.2.2
 
-pub turns_nodes : {S : Type 0} (g : Ghosts S) (turn : Turn) (before after : NamedNetwork S) (name printed : List ℕ) → Turns g turn before name printed after → after.nodes ≡ before.nodes
+pub turns_nodes : {S : Type 0} (g : Ghosts S) (turn : Turn) (before after : NamedNetwork S) (name printed : List ℕ) → TakesTurn g turn before name printed after → after.nodes ≡ before.nodes
 turns_nodes {S} g Step before after name printed q = ap (λ (n : NamedNetwork S). n.nodes) q.2.3
 turns_nodes {S} g Lose before after name printed q = ap (λ (n : NamedNetwork S). n.nodes) q.2.3
 turns_nodes {S} g Unsent before after name printed q = ap (λ (n : NamedNetwork S). n.nodes) q.2.3

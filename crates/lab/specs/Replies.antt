@@ -8,6 +8,7 @@ use Rattle.hub.specs.Connections.{is_open}
 use Rattle.world.specs.Happening.{Happening, Sight, comes, exchanges, replied, exchanged, ended}
 use Rattle.world.specs.Network.{Network, has_transfer_ended}
 use Rattle.world.specs.Playing.{Plays}
+use Rattle.world.specs.Service.{alike}
 use Rattle.world.specs.declared.fate.Fate.TheVariants.{Answered}
 use Rattle.lab.specs.Printed.{closed_line, end_line_of, reply_line, step_line_of}
 
@@ -23,7 +24,7 @@ sight_lines name (s ∷ ss) = sight_line name s ++ sight_lines name ss
 
 -- an event happens, and what is seen of it is printed
 abbrev pub IsShown : {S : Type 0} → Ghosts S → Network S → Happening → List ℕ → List Sight → List ℕ → Network S → Type 0
-IsShown g before h name seen printed after = Plays (StoreSteps g) before (h ∷ []) seen after × (printed ≡ sight_lines name seen)
+IsShown g before h name seen printed after = Plays (alike (StoreSteps g)) before (h ∷ []) seen after × (printed ≡ sight_lines name seen)
 
 -- A piece was sent on this connection, which a script calls so. Where the connection has ended it is said so, and nothing else happens.
 -- Where it hasn't the world plays the piece, and the replies are printed.

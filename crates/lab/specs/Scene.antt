@@ -11,7 +11,7 @@ use Rattle.store.specs.Contents.{new_database, with_security}
 use Rattle.store.specs.Database.{Database}
 use Rattle.store.specs.declared.store.Store.{Ghosts}
 use Rattle.hub.specs.Connections.{next_connection, no_connections, with_connection, without}
-use Rattle.repl.specs.Configuration.{Account, Configuration as PassConfiguration}
+use Rattle.repl.specs.Configuration.{Account, PassConfiguration as PassConfiguration}
 use Rattle.repl.specs.Passes.{first_pass}
 use Rattle.world.specs.Happening.{Sight, exchanges}
 use Rattle.world.specs.Network.{Network}
@@ -124,11 +124,11 @@ RunsToEnd {S} g before name printed after =
     × ((network : Network S) × Runs g most_exchanges before.network number name printed network × (after ≡ record before { network = network }))
 
 -- what a pass is to do, and what is printed of it
-abbrev pub Turns : {S : Type 0} → Ghosts S → Turn → NamedNetwork S → List ℕ → List ℕ → NamedNetwork S → Type 0
-Turns g Step before name printed after = Exchanges g before name Answered printed after
-Turns g Lose before name printed after = Exchanges g before name ReplyLost printed after
-Turns g Unsent before name printed after = Exchanges g before name RequestLost printed after
-Turns g Run before name printed after = RunsToEnd g before name printed after
+abbrev pub TakesTurn : {S : Type 0} → Ghosts S → Turn → NamedNetwork S → List ℕ → List ℕ → NamedNetwork S → Type 0
+TakesTurn g Step before name printed after = Exchanges g before name Answered printed after
+TakesTurn g Lose before name printed after = Exchanges g before name ReplyLost printed after
+TakesTurn g Unsent before name printed after = Exchanges g before name RequestLost printed after
+TakesTurn g Run before name printed after = RunsToEnd g before name printed after
 
 -- the connection of this name is sent these bytes, and this is printed
 abbrev pub Sends : {S : Type 0} → Ghosts S → NamedNetwork S → List ℕ → List ℕ → List ℕ → NamedNetwork S → Type 0
@@ -166,7 +166,7 @@ Plays {S} g c (running names) (send_line name bytes) printed after =
 Plays {S} g c (running names) (close_line name) printed after =
     (printed ≡ []) × ((then : NamedNetwork S) × Closes names name then × (after ≡ running then))
 Plays {S} g c (running names) (turn_line turn name) printed after =
-    (then : NamedNetwork S) × Turns g turn names name printed then × (after ≡ running then)
+    (then : NamedNetwork S) × TakesTurn g turn names name printed then × (after ≡ running then)
 
 -- what lines do one after another; they print what each of them prints
 abbrev pub PlaysAll : {S : Type 0} → Ghosts S → Configuration → Scene S → List ScriptLine → List ℕ → Scene S → Type 0

@@ -7,7 +7,7 @@ ghost use Rattle.world.specs.Happening.{Sight};
 ghost use Rattle.lab.specs.Lines.{pass_said};
 ghost use Rattle.lab.specs.Naming.{named_of, value_named};
 ghost use Rattle.lab.specs.Replies.{IsShown, Runs};
-ghost use Rattle.lab.specs.Scene.{Closes, Opens, Sends, Starts, Turns, first_network, most_exchanges};
+ghost use Rattle.lab.specs.Scene.{Closes, Opens, Sends, Starts, TakesTurn, first_network, most_exchanges};
 ghost use Rattle.lab.specs.Stages.{configuration_of, names_of, nodes_of};
 ghost use Rattle.lab.specs.Stopping.{HasNodes, IsJudged, can_open, can_start};
 
@@ -165,7 +165,7 @@ impl<S: LabStore> Running<S> {
         name: &[u8],
         out: &mut W,
     ) -> Result<(), LineFault>
-        ensures turned { OnOk result ((printed : List ℕ) × Turns S.Store turn (names_of self.old) name.now printed (names_of self.new)
+        ensures turned { OnOk result ((printed : List ℕ) × TakesTurn S.Store turn (names_of self.old) name.now printed (names_of self.new)
             × Appends (W.contents out.old) (W.contents out.new) printed) }
         ensures stands { result ≡ Err LineFault.Line → Keeps (W.contents out.old) (W.contents out.new) }
         ensures judged { IsJudged false (is_some (value_named name.now (names_of self.old).passes)) result }

@@ -22,21 +22,21 @@ use Rattle.store.specs.Database.{Database, DocumentWrite, history_at}
 use Rattle.store.specs.declared.local_document.LocalDocument.{LocalDocument}
 use Rattle.tree.specs.DocumentId.{is_design_id}
 use Rattle.tree.specs.Revision.{Revision}
-use Rattle.write.specs.Admission.{admission, unnamed_deletion}
+use Rattle.write.specs.Admission.{admission, given, unnamed_deletion}
 use Rattle.write.specs.Bulk.{DocumentOutcome}
 use Rattle.write.specs.IndexWrites.{index_admission}
-use Rattle.write.specs.LocalWrites.{local_body, local_by, local_outcome, local_rev, names_stored, next_number, local_of_number}
+use Rattle.write.specs.LocalWrites.{local_body, local_outcome, local_rev, names_stored, next_number}
 use Rattle.write.specs.Planning.{security_outcome}
 use Rattle.write.specs.Terms.{Terms, terms_in}
 use Rattle.write.specs.declared.fault.WriteFault.{WriteFault}
 use Rattle.write.specs.declared.fault.WriteFault.TheVariants as write
 use Rattle.write.proofs.Outcomes.{edit_denied, index_denied, unnamed_denied}
-use Rattle.api.specs.Asking.{asker, body_of, denial, identity_or_refusal, method_of, pair_of, plain, value_or_refusal}
+use Rattle.api.specs.Asking.{asker, json_body, denial, identity_or_refusal, method_named, pair_of, plain, value_or_refusal}
 use Rattle.api.specs.Bulk.{bulk_in}
-use Rattle.api.specs.Listings.{changes_query, differences_in, listing_query}
-use Rattle.api.specs.Paths.{database_name_in, document_id_in, index_name_in, local_id_in}
+use Rattle.api.specs.Listings.{changes_query, requested_differences, listing_query}
+use Rattle.api.specs.Paths.{database_name_in, document_id_in, index_name_in_path, local_id_in}
 use Rattle.api.specs.Queries.{document_query, revision_query}
-use Rattle.api.specs.Refusals.{name_of_rule, next, rule_of, status_of, there_or, true_or}
+use Rattle.api.specs.Refusals.{name_of_rule, and_then, rule_of, status_of, there_or, true_or}
 use Rattle.api.specs.Routing.{page_of}
 use Rattle.api.specs.Views.{view_query}
 use Rattle.find.specs.Indexes.{IndexAsked, index_in}
@@ -51,9 +51,9 @@ use Rattle.api.specs.declared.refusal.Refusal.{Refusal}
 use Rattle.api.specs.declared.refusal.Refusal.TheVariants.{Unauthorized, Forbidden, Path, Method, DatabaseName, NoDatabase, Exists, Id, Query, Syntax, Body, BadDocument, BadHistory, Conflict, Generation, Missing, Deleted}
 use Rattle.node.specs.Answer.{Task, administration, permission, created, entry, admin_task, judgement, listed, database_name_of, task_outcome, removed, page_outcome, task_of, told, worked, work_task}
 use Rattle.node.proofs.Tasks.{named, same, there, went}
-use Rattle.node.specs.Denials.{IsAskedAt, IsDenied, IsDue, IsOf, IsOwn, IsReached, IsToldRule, IsUnvouched, MayDeny, WritesBy, rule_denied_by}
+use Rattle.node.specs.Denials.{IsAskedAt, IsDenied, IsDue, IsSecurityOf, IsOwn, IsReached, IsToldRule, IsUnvouched, MayDeny, WritesBy, rule_denied_by}
 use Rattle.node.specs.Work.{Work, read_work}
-use Rattle.node.specs.Works.{change_list, database_read, difference_list, document_deleted, document_finds, document_list, document_read, document_written, documents_written, deletion, deletion_outcome, edit_asked, edit_done, found, index_asked_in, index_done, index_written, local_read, local_set, local_written, read_by, security_read, security_set, security_written, view_read}
+use Rattle.node.specs.Works.{change_list, database_read, difference_list, document_deleted, document_finds, document_list, document_read, document_written, documents_written, deletion, deletion_outcome, edit_asked, edit_done, refusal_of_read, index_asked_in, index_done, index_written, local_read, local_set, local_written, read_by, security_read, security_set, security_written, view_read}
 
 -- ---- refusals of steps
 
@@ -86,7 +86,7 @@ fair_true a m caller d true none = fair_ok a m caller tt
 fair_true a m caller d false none = fair_other a m caller d none
 
 fair_next : {A B : Type 0} (a : Contents) (m : Message) (caller : Identity) (r : Result A Refusal) (go : A → Result B Refusal)
-    → AreFair a m caller r → ((x : A) → r ≡ Ok x → AreFair a m caller (go x)) → AreFair a m caller (next r go)
+    → AreFair a m caller r → ((x : A) → r ≡ Ok x → AreFair a m caller (go x)) → AreFair a m caller (and_then r go)
 fair_next a m caller (Ok x) go first then = then x refl
 fair_next a m caller (Err d) go first then = λ e h. first e (ap ill (same_refusal d e h))
 
@@ -94,7 +94,7 @@ fair_value : (a : Contents) (m : Message) (caller : Identity) (r : Result Value 
 fair_value a m caller (Ok v) = fair_ok a m caller v
 fair_value a m caller (Err fault) = fair_other a m caller Syntax refl
 
-fair_body : (a : Contents) (m : Message) (caller : Identity) → AreFair a m caller (body_of m)
+fair_body : (a : Contents) (m : Message) (caller : Identity) → AreFair a m caller (json_body m)
 fair_body a m caller = fair_value a m caller (reading m.body)
 
 fair_plain : (a : Contents) (m : Message) (caller : Identity) → AreFair a m caller (plain m)
@@ -123,7 +123,7 @@ fair_database a m caller name db = fair_next a m caller (plain m) _ (fair_plain 
 fair_security : (a : Contents) (m : Message) (caller : Identity) (db : Database) → AreFair a m caller (security_read m db)
 fair_security a m caller db = fair_next a m caller (plain m) _ (fair_plain a m caller) (λ u is. fair_ok a m caller _)
 
-fair_found : (a : Contents) (m : Message) (caller : Identity) (r : Result Value ReadFault) → AreFair a m caller (found r)
+fair_found : (a : Contents) (m : Message) (caller : Identity) (r : Result Value ReadFault) → AreFair a m caller (refusal_of_read r)
 fair_found a m caller (Ok v) = fair_ok a m caller v
 fair_found a m caller (Err read.Missing) = fair_other a m caller Missing refl
 fair_found a m caller (Err read.Deleted) = fair_other a m caller Deleted refl
@@ -146,8 +146,8 @@ fair_changes a m caller db = fair_next a m caller (there_or Query (changes_query
 fair_differences : (a : Contents) (m : Message) (caller : Identity) (db : Database) → AreFair a m caller (difference_list m db)
 fair_differences a m caller db =
     fair_next a m caller (plain m) _ (fair_plain a m caller)
-    (λ u is. fair_next a m caller (body_of m) _ (fair_body a m caller)
-    (λ v said. fair_next a m caller (there_or Body (differences_in v)) _ (fair_there a m caller Body (differences_in v) refl) (λ asked were. fair_ok a m caller _)))
+    (λ u is. fair_next a m caller (json_body m) _ (fair_body a m caller)
+    (λ v said. fair_next a m caller (there_or Body (requested_differences v)) _ (fair_there a m caller Body (requested_differences v) refl) (λ asked were. fair_ok a m caller _)))
 
 fair_set : (a : Contents) (m : Message) (caller : Identity) (r : Result Value WriteFault) → AreFair a m caller (security_set r)
 fair_set a m caller (Ok v) = fair_ok a m caller _
@@ -156,7 +156,7 @@ fair_set a m caller (Err fault) = fair_other a m caller Body refl
 fair_securing : (a : Contents) (m : Message) (caller : Identity) (db : Database) → AreFair a m caller (security_written m db)
 fair_securing a m caller db =
     fair_next a m caller (plain m) _ (fair_plain a m caller)
-    (λ u is. fair_next a m caller (body_of m) _ (fair_body a m caller) (λ v said. fair_set a m caller (security_outcome v)))
+    (λ u is. fair_next a m caller (json_body m) _ (fair_body a m caller) (λ v said. fair_set a m caller (security_outcome v)))
 
 fair_edit : (a : Contents) (m : Message) (caller : Identity) (status : ℕ) (id : List ℕ) (r : Result DocumentWrite WriteFault)
     → ((rule : Rule) → r ≡ Err (write.Denied rule) → IsDue a m caller rule) → AreFair a m caller (edit_done caller status id r)
@@ -181,7 +181,7 @@ record IsAsked (m : Message) (asked : List ℕ × Option Revision) : Type 0 wher
 
 is_asked : (m : Message) (asked : List ℕ × Option Revision) → edit_asked m ≡ Ok asked → IsAsked m asked
 is_asked m asked e =
-    let k = went (there_or Id (document_id_in m.path)) (λ id. next (there_or Query (revision_query m.query)) (λ rev. Ok (id, rev))) asked e in
+    let k = went (there_or Id (document_id_in m.path)) (λ id. and_then (there_or Query (revision_query m.query)) (λ rev. Ok (id, rev))) asked e in
     let l = went (there_or Query (revision_query m.query)) (λ rev. Ok (k.first, rev)) asked k.then in
     let is = same {A = List ℕ × Option Revision} (k.first, l.first) asked l.then in
     record {
@@ -199,7 +199,7 @@ record IsEdited (a : Contents) (m : Message) (caller : Identity) (name : List �
   place : IsIn a m name db
   member : verdict WriteDocument caller db.security ≡ None
   page : page_of m.path ≡ Some Document
-  by : method_of m.method ≡ Some method
+  by : method_named m.method ≡ Some method
 
 module _ (a : Contents) (m : Message) (caller : Identity) (name : List ℕ) (db : Database) where
   edit_due : (method : RequestMethod) → IsEdited a m caller name db method → (asked : List ℕ × Option Revision) (document : Value) (rule : Rule) → edit_asked m ≡ Ok asked
@@ -223,7 +223,7 @@ module _ (a : Contents) (m : Message) (caller : Identity) (name : List ℕ) (db 
   fair_writing : IsEdited a m caller name db Put → AreFair a m caller (document_written caller m name db)
   fair_writing at =
       fair_next a m caller (edit_asked m) _ (fair_asked a m caller)
-      (λ asked is. fair_next a m caller (body_of m) _ (fair_body a m caller)
+      (λ asked is. fair_next a m caller (json_body m) _ (fair_body a m caller)
       (λ document says. fair_edit a m caller 201 asked.0 (admission (terms_in caller name db) db asked.0 asked.1 document)
       (λ rule denied. edit_due Put at asked document rule is says denied)))
 
@@ -257,22 +257,22 @@ module _ (a : Contents) (m : Message) (caller : Identity) (name : List ℕ) (db 
 fair_documents : (a : Contents) (m : Message) (caller : Identity) (name : List ℕ) (db : Database) → AreFair a m caller (documents_written caller m name db)
 fair_documents a m caller name db =
     fair_next a m caller (plain m) _ (fair_plain a m caller)
-    (λ u is. fair_next a m caller (body_of m) _ (fair_body a m caller)
+    (λ u is. fair_next a m caller (json_body m) _ (fair_body a m caller)
     (λ v said. fair_next a m caller (there_or Body (bulk_in v)) _ (fair_there a m caller Body (bulk_in v) refl) (λ bulk asked. fair_ok a m caller _)))
 
 fair_finds : (a : Contents) (m : Message) (caller : Identity) (db : Database) → AreFair a m caller (document_finds m db)
 fair_finds a m caller db =
     fair_next a m caller (plain m) _ (fair_plain a m caller)
-    (λ u is. fair_next a m caller (body_of m) _ (fair_body a m caller)
+    (λ u is. fair_next a m caller (json_body m) _ (fair_body a m caller)
     (λ v said. fair_next a m caller (there_or Body (query_in v)) _ (fair_there a m caller Body (query_in v) refl) (λ query asked. fair_ok a m caller _)))
 
 -- the request declares an index
 record IsDeclared (m : Message) (asked : IndexAsked) : Type 0 where
   value : Value
   page : page_of m.path ≡ Some Index
-  method : method_of m.method ≡ Some Post
+  method : method_named m.method ≡ Some Post
   query : plain m ≡ Ok tt
-  body : body_of m ≡ Ok value
+  body : json_body m ≡ Ok value
   asks : index_in value ≡ Some asked
 
 -- an index is denied as a design document alone, by the security object of its database
@@ -310,11 +310,11 @@ fair_index a m caller name db asked declared place member = by (index_admission 
     by (Err (write.Store fault)) is = fair_other a m caller Conflict refl
     by (Err write.Memory) is = fair_other a m caller Conflict refl
 
-fair_indexing : (a : Contents) (m : Message) (caller : Identity) (name : List ℕ) (db : Database) → (page_of m.path ≡ Some Index) × (method_of m.method ≡ Some Post) → IsIn a m name db
+fair_indexing : (a : Contents) (m : Message) (caller : Identity) (name : List ℕ) (db : Database) → (page_of m.path ≡ Some Index) × (method_named m.method ≡ Some Post) → IsIn a m name db
     → verdict WriteDocument caller db.security ≡ None → AreFair a m caller (index_written caller m name db)
 fair_indexing a m caller name db for place member =
     fair_next a m caller (plain m) _ (fair_plain a m caller)
-    (λ u plainly. fair_next a m caller (body_of m) _ (fair_body a m caller)
+    (λ u plainly. fair_next a m caller (json_body m) _ (fair_body a m caller)
     (λ v said. fair_next a m caller (there_or Body (index_in v)) _ (fair_there a m caller Body (index_in v) refl)
     (λ asked is. fair_index a m caller name db asked
     (record { value = v; page = for.0; method = for.1; query = plainly; body = said; asks = named Body (index_in v) asked is })
@@ -323,7 +323,7 @@ fair_indexing a m caller name db for place member =
 fair_view : (a : Contents) (m : Message) (caller : Identity) (db : Database) → AreFair a m caller (view_read m db)
 fair_view a m caller db =
     fair_next a m caller (there_or Id (document_id_in m.path)) _ (fair_there a m caller Id (document_id_in m.path) refl)
-    (λ design is. fair_next a m caller (there_or Id (index_name_in m.path)) _ (fair_there a m caller Id (index_name_in m.path) refl)
+    (λ design is. fair_next a m caller (there_or Id (index_name_in_path m.path)) _ (fair_there a m caller Id (index_name_in_path m.path) refl)
     (λ index named. fair_next a m caller (there_or Query (view_query m.query)) _ (fair_there a m caller Query (view_query m.query) refl)
     (λ range asked. fair_found a m caller (view_listing range design index db))))
 
@@ -332,16 +332,18 @@ fair_local a m caller db =
     fair_next a m caller (there_or Id (local_id_in m.path)) _ (fair_there a m caller Id (local_id_in m.path) refl)
     (λ id is. fair_next a m caller (plain m) _ (fair_plain a m caller) (λ u plain. fair_found a m caller (local_document id db)))
 
+abbrev local_well : LocalDocument → Result LocalDocument WriteFault
+local_well d = Ok d
+
 -- no rule refuses a local document
-undenied_by : (stored : Option LocalDocument) (names : Option Bool) (body : Option Value) (rule : Rule) → local_by stored names body ≢ Err (write.Denied rule)
-undenied_by stored None body rule e = cc
-undenied_by stored (Some names) None rule e = cc
-undenied_by stored (Some false) (Some body) rule e = cc
-undenied_by stored (Some true) (Some body) rule e = by (next_number stored) e
-  where
-    by : (o : Option ℕ) → local_of_number o body ≡ Err (write.Denied rule) → ⊥
-    by None h = cc
-    by (Some n) h = cc
+undenied_by : (number : Option ℕ) (names : Option Bool) (body : Option Value) (rule : Rule)
+    → given write.BadDocument names (λ n. given write.BadDocument body (λ b.
+    cond n (given write.Generation number (λ k. local_well (record { number = k; body = b }))) (Err write.Conflict))) ≢ Err (write.Denied rule)
+undenied_by number None body rule e = cc
+undenied_by number (Some names) None rule e = cc
+undenied_by number (Some false) (Some body) rule e = cc
+undenied_by None (Some true) (Some body) rule e = cc
+undenied_by (Some n) (Some true) (Some body) rule e = cc
 
 fair_stored : (a : Contents) (m : Message) (caller : Identity) (id : List ℕ) (r : Result LocalDocument WriteFault) → ((rule : Rule) → r ≢ Err (write.Denied rule)) → AreFair a m caller (local_set caller id r)
 fair_stored a m caller id (Ok d) due = fair_ok a m caller _
@@ -357,16 +359,16 @@ fair_storing : (a : Contents) (m : Message) (caller : Identity) (db : Database) 
 fair_storing a m caller db =
     fair_next a m caller (there_or Id (local_id_in m.path)) _ (fair_there a m caller Id (local_id_in m.path) refl)
     (λ id is. fair_next a m caller (plain m) _ (fair_plain a m caller)
-    (λ u plain. fair_next a m caller (body_of m) _ (fair_body a m caller)
+    (λ u plain. fair_next a m caller (json_body m) _ (fair_body a m caller)
     (λ v said. fair_stored a m caller id (local_outcome (local_at db id) id v)
-    (λ rule. undenied_by (local_at db id) (option_map (λ rev. names_stored (local_at db id) rev) (local_rev id v)) (local_body v) rule))))
+    (λ rule. undenied_by (next_number (local_at db id)) (option_map (λ rev. names_stored (local_at db id) rev) (local_rev id v)) (local_body v) rule))))
 
 -- ---- what is asked
 
 -- the request asks for this action, under the security object of the database that its path leads into
 record IsInside (a : Contents) (m : Message) (action : Action) : Type 0 where
   asked : MayDeny m action
-  of : (security : Value) → IsOwn a m security → IsOf action a m security
+  of : (security : Value) → IsOwn a m security → IsSecurityOf action a m security
 
 abbrev IsFairTask : Contents → Message → Identity → Task → Type 0
 IsFairTask a m caller (told value) = ⊤
@@ -384,13 +386,13 @@ fair_work a m caller action w task inside all e =
 
 fair_admin : (a : Contents) (m : Message) (caller : Identity) (t : List ℕ → Task) (task : Task) → ((name : List ℕ) → IsFairTask a m caller (t name)) → admin_task caller m t ≡ Ok task → IsFairTask a m caller task
 fair_admin a m caller t task all e =
-    let k = went (database_name_of m) (λ name. next (administration caller) (λ _. Ok (t name))) task e in
+    let k = went (database_name_of m) (λ name. and_then (administration caller) (λ _. Ok (t name))) task e in
     let l = went (administration caller) (λ _. Ok (t k.first)) task k.then in
     subst (λ (x : Task). IsFairTask a m caller x) (same {A = Task} _ task l.then) (all k.first)
 
 -- the request is for this page by this method
 abbrev IsFor : Page → Option RequestMethod → Message → Type 0
-IsFor page method m = (page_of m.path ≡ Some page) × (method_of m.method ≡ method)
+IsFor page method m = (page_of m.path ≡ Some page) × (method_named m.method ≡ method)
 
 -- so each action may deny it that these ask for
 may : (page : Page) (method : Option RequestMethod) (m : Message) → IsFor page method m → (action : Action) → IsAskedAt page method action → IsReached page action m → MayDeny m action
@@ -401,7 +403,7 @@ fair_task : (a : Contents) (page : Page) (method : Option RequestMethod) (caller
 fair_task a Welcome (Some Get) caller m task is e =
     let k = went (plain m) (λ _. Ok _) task e in subst (λ (x : Task). IsFairTask a m caller x) (same {A = Task} _ task k.then) tt
 fair_task a AllDatabases (Some Get) caller m task is e =
-    let k = went (administration caller) (λ _. next (plain m) (λ _. Ok listed)) task e in
+    let k = went (administration caller) (λ _. and_then (plain m) (λ _. Ok listed)) task e in
     let l = went (plain m) (λ _. Ok listed) task k.then in
     subst (λ (x : Task). IsFairTask a m caller x) (same {A = Task} _ task l.then) tt
 fair_task a DatabasePage (Some Get) caller m task is e = fair_work a m caller Read (λ name. read_work (database_read m name)) task (record { asked = may DatabasePage (Some Get) m is Read refl tt; of = λ security own. own }) (λ name db place member. fair_read a m caller (database_read m name) db (fair_database a m caller name db)) e
@@ -480,7 +482,7 @@ admitted : (caller : Identity) (action : Action) (o : Option Database) (db : Dat
 admitted caller action None db e = absurd cc
 admitted caller action (Some d) db e = by (verdict action caller d.security) refl e
   where
-    by : (v : Option Rule) → verdict action caller d.security ≡ v → next (permission caller v) (λ _. Ok d) ≡ Ok db → verdict action caller db.security ≡ None
+    by : (v : Option Rule) → verdict action caller d.security ≡ v → and_then (permission caller v) (λ _. Ok d) ≡ Ok db → verdict action caller db.security ≡ None
     by None is k = subst (λ (x : Database). verdict action caller x.security ≡ None) (same {A = Database} d db k) is
     by (Some rule) is k = absurd cc
 
@@ -498,13 +500,13 @@ fair_outcome a m caller (worked action name work) fair =
     (λ db is. fair_next a m caller (work db) _ (fair.1 db (record { own = fair.0; there = there caller action (get a name) db is }) (admitted caller action (get a name) db is))
     (λ d done. fair_ok a m caller _))
 
-fair_answer : (a : Contents) (m : Message) (caller : Identity) → AreFair a m caller (next (there_or Path (page_of m.path)) (λ page. page_outcome page (method_of m.method) caller a m))
+fair_answer : (a : Contents) (m : Message) (caller : Identity) → AreFair a m caller (and_then (there_or Path (page_of m.path)) (λ page. page_outcome page (method_named m.method) caller a m))
 fair_answer a m caller =
     fair_next a m caller (there_or Path (page_of m.path)) _ (fair_there a m caller Path (page_of m.path) refl)
-    (λ page is. fair_next a m caller (task_of page (method_of m.method) caller m) _ (fair_page a page (method_of m.method) caller m (for page is))
-    (λ task asked. fair_outcome a m caller task (fair_task a page (method_of m.method) caller m task (for page is) asked)))
+    (λ page is. fair_next a m caller (task_of page (method_named m.method) caller m) _ (fair_page a page (method_named m.method) caller m (for page is))
+    (λ task asked. fair_outcome a m caller task (fair_task a page (method_named m.method) caller m task (for page is) asked)))
   where
-    for : (page : Page) → there_or Path (page_of m.path) ≡ Ok page → IsFor page (method_of m.method) m
+    for : (page : Page) → there_or Path (page_of m.path) ≡ Ok page → IsFor page (method_named m.method) m
     for page is = (named Path (page_of m.path) page is, refl)
 
 -- ---- all requests
@@ -531,7 +533,7 @@ pub judged_denied : (c : Configuration) (a : Contents) (m : Message) (e : Refusa
 judged_denied c a m e rule h denies = by (asker c m) refl h
   where
     by : (r : Result Identity Refusal) → asker c m ≡ r
-        → next r (λ caller. next (there_or Path (page_of m.path)) (λ page. page_outcome page (method_of m.method) caller a m)) ≡ Err e → IsDenied c a m e rule
+        → and_then r (λ caller. and_then (there_or Path (page_of m.path)) (λ page. page_outcome page (method_named m.method) caller a m)) ≡ Err e → IsDenied c a m e rule
     by (Ok caller) is k = told_rule c a m caller e rule is denies (fair_answer a m caller e k)
     by (Err d) is k = inl (unvouched c m (caller_of (map pair_of m.headers) c.secret c.admins) e refl (is ∙ ap (λ (x : Refusal). ill x) (same_refusal d e k)))
 

@@ -28,10 +28,10 @@ use Rattle.write.specs.LocalWrites.{local_outcome}
 use Rattle.write.specs.Terms.{terms_in}
 use Rattle.write.specs.declared.fault.WriteFault.{WriteFault}
 use Rattle.find.specs.Indexes.{index_in}
-use Rattle.api.specs.Asking.{asker, body_of, method_of, plain}
+use Rattle.api.specs.Asking.{asker, json_body, method_named, plain}
 use Rattle.api.specs.Bulk.{bulk_in}
 use Rattle.api.specs.Paths.{database_name_in, local_id_in}
-use Rattle.api.specs.Refusals.{next, there_or, true_or}
+use Rattle.api.specs.Refusals.{and_then, there_or, true_or}
 use Rattle.api.specs.Routing.{page_of}
 use Rattle.api.specs.declared.method.RequestMethod.{RequestMethod}
 use Rattle.api.specs.declared.method.RequestMethod.TheVariants.{Get, Put, Post, Delete}
@@ -39,8 +39,8 @@ use Rattle.api.specs.declared.page.Page.{Page}
 use Rattle.api.specs.declared.page.Page.TheVariants.{Welcome, AllDatabases, Database as DatabasePage, Security, BulkDocuments, AllDocuments, Changes, Differences, Find, Index, View, Document, LocalDocument as LocalDocumentPage}
 use Rattle.api.specs.declared.refusal.Refusal.{Refusal}
 use Rattle.api.specs.declared.refusal.Refusal.TheVariants.{Body, DatabaseName, Exists, Id, NoDatabase, Path}
-use Rattle.node.specs.Answer.{Change, Outcome, Task, administration, admin_task, answer, change_at, created, creation, database_name_of, entry, inside, judgement, kept, listed, outcome_in, page_outcome, permission, removal, removed, reply, settlement, task_of, task_outcome, told, welcome, with_change, with_effect_at, work_task, worked}
-use Rattle.node.specs.Hidden.{AreAlike, AreHidden, Group, IsLike, IsLikeWhere, Names, is_among_names, is_into, is_of_others, is_outside, is_spared, is_spared_at, is_struck}
+use Rattle.node.specs.Answer.{Change, Outcome, Task, administration, admin_task, answer, change_at, created, creation, database_name_of, entry, inside, judgement, kept, listed, outcome_in_database, page_outcome, permission, removal, removed, reply, settlement, task_of, task_outcome, told, welcome, with_change, with_effect_at, work_task, worked}
+use Rattle.node.specs.Hidden.{AreAlike, AreHidden, CallerGroup, IsLike, IsLikeWhere, Names, is_among_names, is_into, is_of_others, is_outside, is_spared, is_spared_at, is_struck}
 use Rattle.node.specs.Work.{Done, Effect, Work, appended, local_put, nothing, read_work, secured, with_effect}
 use Rattle.node.specs.Works.{change_list, database_read, deletion_outcome, difference_list, document_deleted, document_finds, document_list, document_read, document_written, documents_written, done, edit_asked, edit_done, index_done, index_written, local_read, local_set, local_written, security_read, security_written, view_read}
 use Rattle.node.proofs.Steps.{answer_made, got_insert, got_remove}
@@ -120,7 +120,7 @@ keeping_done x keeps d e = subst (λ (y : Done). KeepsSecurity y.effect) (same {
 keeping_refusal : (refusal : Refusal) → AreKeeping (Err refusal)
 keeping_refusal refusal d e = absurd cc
 
-keeping_next : {A : Type 0} (r : Result A Refusal) (go : A → Result Done Refusal) → ((x : A) → AreKeeping (go x)) → AreKeeping (next r go)
+keeping_next : {A : Type 0} (r : Result A Refusal) (go : A → Result Done Refusal) → ((x : A) → AreKeeping (go x)) → AreKeeping (and_then r go)
 keeping_next (Ok x) go each = each x
 keeping_next (Err refusal) go each = keeping_refusal refusal
 
@@ -133,7 +133,7 @@ keeping_edit caller status id (Err fault) = keeping_refusal _
 
 keeping_writing : (caller : Identity) (m : Message) (name : List ℕ) (db : Database) → AreKeeping (document_written caller m name db)
 keeping_writing caller m name db =
-    keeping_next (edit_asked m) _ (λ asked. keeping_next (body_of m) _ (λ document. keeping_edit caller 201 asked.0 (admission (terms_in caller name db) db asked.0 asked.1 document)))
+    keeping_next (edit_asked m) _ (λ asked. keeping_next (json_body m) _ (λ document. keeping_edit caller 201 asked.0 (admission (terms_in caller name db) db asked.0 asked.1 document)))
 
 keeping_deleting : (caller : Identity) (m : Message) (name : List ℕ) (db : Database) → AreKeeping (document_deleted caller m name db)
 keeping_deleting caller m name db =
@@ -141,7 +141,7 @@ keeping_deleting caller m name db =
 
 keeping_documents : (caller : Identity) (m : Message) (name : List ℕ) (db : Database) → AreKeeping (documents_written caller m name db)
 keeping_documents caller m name db =
-    keeping_next (plain m) _ (λ u. keeping_next (body_of m) _ (λ v. keeping_next (there_or Body (bulk_in v)) _ (λ bulk. keeping_done _ tt)))
+    keeping_next (plain m) _ (λ u. keeping_next (json_body m) _ (λ v. keeping_next (there_or Body (bulk_in v)) _ (λ bulk. keeping_done _ tt)))
 
 keeping_index : (caller : Identity) (id name : List ℕ) (r : DocumentOutcome) → AreKeeping (index_done caller id name r)
 keeping_index caller id name (Ok w) = keeping_done _ tt
@@ -149,7 +149,7 @@ keeping_index caller id name (Err fault) = keeping_refusal _
 
 keeping_indexing : (caller : Identity) (m : Message) (name : List ℕ) (db : Database) → AreKeeping (index_written caller m name db)
 keeping_indexing caller m name db =
-    keeping_next (plain m) _ (λ u. keeping_next (body_of m) _ (λ v. keeping_next (there_or Body (index_in v)) _
+    keeping_next (plain m) _ (λ u. keeping_next (json_body m) _ (λ v. keeping_next (there_or Body (index_in v)) _
     (λ asked. keeping_index caller asked.design asked.name (index_admission (terms_in caller name db) db asked.design asked.name asked.fields))))
 
 keeping_local : (caller : Identity) (id : List ℕ) (r : Result LocalDocument WriteFault) → AreKeeping (local_set caller id r)
@@ -158,7 +158,7 @@ keeping_local caller id (Err fault) = keeping_refusal _
 
 keeping_storing : (caller : Identity) (m : Message) (db : Database) → AreKeeping (local_written caller m db)
 keeping_storing caller m db =
-    keeping_next (there_or Id (local_id_in m.path)) _ (λ id. keeping_next (plain m) _ (λ u. keeping_next (body_of m) _ (λ v. keeping_local caller id (local_outcome (local_at db id) id v))))
+    keeping_next (there_or Id (local_id_in m.path)) _ (λ id. keeping_next (plain m) _ (λ u. keeping_next (json_body m) _ (λ v. keeping_local caller id (local_outcome (local_at db id) id v))))
 
 -- whoever isn't a member is refused the action for that
 abbrev AsksMembers : Action → Type 0
@@ -195,16 +195,16 @@ apt_work spared action m w task asks apart e =
 apt_whole : (caller : Identity) (m : Message) (t : List ℕ → Task) (task : Task) → ((name : List ℕ) → database_name_in m.path ≡ Some name → IsApt true m (t name)) → admin_task caller m t ≡ Ok task
     → IsApt true m task
 apt_whole caller m t task all e =
-    let k = went (database_name_of m) (λ name. next (administration caller) (λ _. Ok (t name))) task e in
+    let k = went (database_name_of m) (λ name. and_then (administration caller) (λ _. Ok (t name))) task e in
     let l = went (administration caller) (λ _. Ok (t k.first)) task k.then in
     subst (λ (x : Task). IsApt true m x) (same {A = Task} _ task l.then) (all k.first (named DatabaseName (database_name_in m.path) k.first k.was))
 
-apt_welcome : (m : Message) (task : Task) → next (plain m) (λ _. Ok (told welcome)) ≡ Ok task → IsApt false m task
+apt_welcome : (m : Message) (task : Task) → and_then (plain m) (λ _. Ok (told welcome)) ≡ Ok task → IsApt false m task
 apt_welcome m task e = let k = went (plain m) (λ _. Ok (told welcome)) task e in subst (λ (x : Task). IsApt false m x) (same {A = Task} _ task k.then) tt
 
-apt_list : (caller : Identity) (m : Message) (task : Task) → next (administration caller) (λ _. next (plain m) (λ _. Ok listed)) ≡ Ok task → IsApt false m task
+apt_list : (caller : Identity) (m : Message) (task : Task) → and_then (administration caller) (λ _. and_then (plain m) (λ _. Ok listed)) ≡ Ok task → IsApt false m task
 apt_list caller m task e =
-    let k = went (administration caller) (λ _. next (plain m) (λ _. Ok listed)) task e in
+    let k = went (administration caller) (λ _. and_then (plain m) (λ _. Ok listed)) task e in
     let l = went (plain m) (λ _. Ok listed) task k.then in
     subst (λ (x : Task). IsApt false m x) (same {A = Task} _ task l.then) tt
 
@@ -239,7 +239,7 @@ there_alike true (Some d) None like = absurd like
 there_alike true (Some d) (Some e) like = refl
 there_alike false x y like = ap is_none like
 
-removed_alike : (x y : Option Database) (r : Result Outcome Refusal) → is_none x ≡ is_none y → next (there_or NoDatabase x) (λ _. r) ≡ next (there_or NoDatabase y) (λ _. r)
+removed_alike : (x y : Option Database) (r : Result Outcome Refusal) → is_none x ≡ is_none y → and_then (there_or NoDatabase x) (λ _. r) ≡ and_then (there_or NoDatabase y) (λ _. r)
 removed_alike None None r e = refl
 removed_alike None (Some d) r e = absurd cc
 removed_alike (Some d) None r e = absurd cc
@@ -247,27 +247,27 @@ removed_alike (Some d) (Some x) r e = refl
 
 -- what work in an entered database comes to
 abbrev ends_in : List ℕ → Work → Database → Result Outcome Refusal
-ends_in name work db = next (work db) (λ d. Ok (outcome_in name d))
+ends_in name work db = and_then (work db) (λ d. Ok (outcome_in_database name d))
 
 -- a caller is no member, or what is asked is the same in each database
 abbrev IsUnseeing : Identity → Action → Work → Database → Type 0
 IsUnseeing caller action work db = (verdict action caller db.security ≡ Some DbMember) ⊎ ((d e : Database) → work d ≡ work e)
 
 entered_alike : (caller : Identity) (action : Action) (name : List ℕ) (work : Work) (d e : Database) → d.security ≡ e.security → IsUnseeing caller action work d
-    → next (entry caller action (Some d)) (ends_in name work) ≡ next (entry caller action (Some e)) (ends_in name work)
+    → and_then (entry caller action (Some d)) (ends_in name work) ≡ and_then (entry caller action (Some e)) (ends_in name work)
 entered_alike caller action name work d e like (inl refused) =
-    ap (λ (o : Option Rule). next (next (permission caller o) (λ _. Ok d)) (ends_in name work)) refused
-    ∙ sym (ap (λ (o : Option Rule). next (next (permission caller o) (λ _. Ok e)) (ends_in name work)) (ap (verdict action caller) (sym like) ∙ refused))
+    ap (λ (o : Option Rule). and_then (and_then (permission caller o) (λ _. Ok d)) (ends_in name work)) refused
+    ∙ sym (ap (λ (o : Option Rule). and_then (and_then (permission caller o) (λ _. Ok e)) (ends_in name work)) (ap (verdict action caller) (sym like) ∙ refused))
 entered_alike caller action name work d e like (inr every) =
-    ap (λ (s : Value). next (next (permission caller (verdict action caller s)) (λ _. Ok d)) (ends_in name work)) like ∙ by (verdict action caller e.security)
+    ap (λ (s : Value). and_then (and_then (permission caller (verdict action caller s)) (λ _. Ok d)) (ends_in name work)) like ∙ by (verdict action caller e.security)
   where
-    by : (o : Option Rule) → next (next (permission caller o) (λ _. Ok d)) (ends_in name work) ≡ next (next (permission caller o) (λ _. Ok e)) (ends_in name work)
-    by None = ap (λ (r : Result Done Refusal). next r (λ w. Ok (outcome_in name w))) (every d e)
+    by : (o : Option Rule) → and_then (and_then (permission caller o) (λ _. Ok d)) (ends_in name work) ≡ and_then (and_then (permission caller o) (λ _. Ok e)) (ends_in name work)
+    by None = ap (λ (r : Result Done Refusal). and_then r (λ w. Ok (outcome_in_database name w))) (every d e)
     by (Some rule) = refl
 
 worked_alike : (caller : Identity) (action : Action) (name : List ℕ) (work : Work) (side : Bool) (x y : Option Database) → IsLikeWhere side x y
-    → (side ≡ true → (d : Database) → x ≡ Some d → IsUnseeing caller action work d) → next (entry caller action x) (ends_in name work) ≡ next (entry caller action y) (ends_in name work)
-worked_alike caller action name work false x y like unseeing = ap (λ (o : Option Database). next (entry caller action o) (ends_in name work)) like
+    → (side ≡ true → (d : Database) → x ≡ Some d → IsUnseeing caller action work d) → and_then (entry caller action x) (ends_in name work) ≡ and_then (entry caller action y) (ends_in name work)
+worked_alike caller action name work false x y like unseeing = ap (λ (o : Option Database). and_then (entry caller action o) (ends_in name work)) like
 worked_alike caller action name work true None None like unseeing = refl
 worked_alike caller action name work true None (Some e) like unseeing = absurd like
 worked_alike caller action name work true (Some d) None like unseeing = absurd like
@@ -284,26 +284,26 @@ in_group : (b : Bool) → not b ≡ false → b ≡ true
 in_group true e = refl
 in_group false e = absurd cc
 
-module _ (c : Configuration) (group : Group) (names : Names) (a b : Contents) (m : Message) (like : AreAlike names a b) (hidden : AreHidden group names a) (stays : is_struck c group names m ≡ false) where
+module _ (c : Configuration) (group : CallerGroup) (names : Names) (a b : Contents) (m : Message) (like : AreAlike names a b) (hidden : AreHidden group names a) (stays : is_struck c group names m ≡ false) where
   unseeing : (page : Page) (caller : Identity) (action : Action) (name : List ℕ) (work : Work) → asker c m ≡ Ok caller → page_of m.path ≡ Some page → database_name_in m.path ≡ Some name
-      → AsksMembers action → IsApart (is_spared_at (Some page) (method_of m.method)) work → names name ≡ true → (d : Database) → get a name ≡ Some d → IsUnseeing caller action work d
+      → AsksMembers action → IsApart (is_spared_at (Some page) (method_named m.method)) work → names name ≡ true → (d : Database) → get a name ≡ Some d → IsUnseeing caller action work d
   unseeing page caller action name work is at own asks apart among d there =
       by (spared_or_own (is_of_others c group m) (is_into names m) (is_spared m) stays (ap (is_among_names names) own ∙ among))
     where
       by : (is_of_others c group m ≡ false) ⊎ (is_spared m ≡ true) → IsUnseeing caller action work d
       by (inl outside) = inl (asks caller d.security (hidden caller name d (in_group (group caller) (ap (is_outside group) (sym is) ∙ outside)) among there))
-      by (inr spared) = inr (subst (λ (s : Bool). IsApart s work) (ap (λ (o : Option Page). is_spared_at o (method_of m.method)) (sym at) ∙ spared) apart)
+      by (inr spared) = inr (subst (λ (s : Bool). IsApart s work) (ap (λ (o : Option Page). is_spared_at o (method_named m.method)) (sym at) ∙ spared) apart)
 
-  outcome_alike : (page : Page) (caller : Identity) (task : Task) → asker c m ≡ Ok caller → page_of m.path ≡ Some page → IsApt (is_spared_at (Some page) (method_of m.method)) m task
+  outcome_alike : (page : Page) (caller : Identity) (task : Task) → asker c m ≡ Ok caller → page_of m.path ≡ Some page → IsApt (is_spared_at (Some page) (method_named m.method)) m task
       → task_outcome caller a task ≡ task_outcome caller b task
   outcome_alike page caller (told value) is at ok = refl
   outcome_alike page caller listed is at ok =
       ap (λ (ks : List (List ℕ)). Ok (reply (array (items_of (map text ks))))) (same_names a b (λ name. there_alike (names name) (get a name) (get b name) (like name)))
   outcome_alike page caller (created name asked) is at ok =
-      ap (λ (absent : Bool). next (true_or Exists absent) (λ _. next asked (λ _. Ok (let x : Outcome = record { status = 201; value = done; change = creation name } in x))))
+      ap (λ (absent : Bool). and_then (true_or Exists absent) (λ _. and_then asked (λ _. Ok (let x : Outcome = record { status = 201; value = done; change = creation name } in x))))
       (there_alike (names name) (get a name) (get b name) (like name))
   outcome_alike page caller (removed name asked) is at ok =
-      removed_alike (get a name) (get b name) (next asked (λ _. Ok (let x : Outcome = record { status = 200; value = done; change = removal name } in x)))
+      removed_alike (get a name) (get b name) (and_then asked (λ _. Ok (let x : Outcome = record { status = 200; value = done; change = removal name } in x)))
       (there_alike (names name) (get a name) (get b name) (like name))
   outcome_alike page caller (worked action name work) is at (own, asks, apart) =
       worked_alike caller action name work (names name) (get a name) (get b name) (like name) (unseeing page caller action name work is at own asks apart)
@@ -312,8 +312,8 @@ module _ (c : Configuration) (group : Group) (names : Names) (a b : Contents) (m
   judged_hidden =
       next_same (asker c m) _ _ (λ caller is.
       next_same (there_or Path (page_of m.path)) _ _ (λ page at.
-      next_same (task_of page (method_of m.method) caller m) _ _ (λ task asked.
-      outcome_alike page caller task is (named Path (page_of m.path) page at) (apt page (method_of m.method) caller m task asked))))
+      next_same (task_of page (method_named m.method) caller m) _ _ (λ task asked.
+      outcome_alike page caller task is (named Path (page_of m.path) page at) (apt page (method_named m.method) caller m task asked))))
 
   pub answer_hidden : answer c a m ≡ answer c b m
   answer_hidden = ap settlement judged_hidden
@@ -416,18 +416,18 @@ quiet_outcome spared caller a m (created name asked) o not_spared ok e = absurd 
 quiet_outcome spared caller a m (removed name asked) o not_spared ok e = absurd (let k : true ≡ false = sym ok.1 ∙ not_spared in cc)
 quiet_outcome spared caller a m (worked action name work) o not_spared (own, asks, apart) e =
     let k = went (entry caller action (get a name)) (ends_in name work) o e in
-    let l = went (work k.first) (λ d. Ok (outcome_in name d)) o k.then in
+    let l = went (work k.first) (λ d. Ok (outcome_in_database name d)) o k.then in
     let keeps : (db : Database) → AreKeeping (work db) = subst (λ (s : Bool). IsApart s work) not_spared apart in
     subst (λ (x : Outcome). IsQuiet x.change) (same {A = Outcome} _ o l.then) (quiet_at name l.first.effect (keeps k.first l.first l.was))
 
 quiet_judged : (c : Configuration) (a : Contents) (m : Message) (o : Outcome) → is_spared m ≡ false → judgement c a m ≡ Ok o → IsQuiet o.change
 quiet_judged c a m o not_spared e =
-    let k = went (asker c m) (λ caller. next (there_or Path (page_of m.path)) (λ page. page_outcome page (method_of m.method) caller a m)) o e in
-    let l = went (there_or Path (page_of m.path)) (λ page. page_outcome page (method_of m.method) k.first a m) o k.then in
-    let t = went (task_of l.first (method_of m.method) k.first m) (λ task. task_outcome k.first a task) o l.then in
+    let k = went (asker c m) (λ caller. and_then (there_or Path (page_of m.path)) (λ page. page_outcome page (method_named m.method) caller a m)) o e in
+    let l = went (there_or Path (page_of m.path)) (λ page. page_outcome page (method_named m.method) k.first a m) o k.then in
+    let t = went (task_of l.first (method_named m.method) k.first m) (λ task. task_outcome k.first a task) o l.then in
     let at = named Path (page_of m.path) l.first l.was in
-    quiet_outcome (is_spared_at (Some l.first) (method_of m.method)) k.first a m t.first o
-    (ap (λ (p : Option Page). is_spared_at p (method_of m.method)) (sym at) ∙ not_spared) (apt l.first (method_of m.method) k.first m t.first t.was) t.then
+    quiet_outcome (is_spared_at (Some l.first) (method_named m.method)) k.first a m t.first o
+    (ap (λ (p : Option Page). is_spared_at p (method_named m.method)) (sym at) ∙ not_spared) (apt l.first (method_named m.method) k.first m t.first t.was) t.then
 
 quiet_settled : (c : Configuration) (a : Contents) (m : Message) (r : Result Outcome Refusal) → is_spared m ≡ false → judgement c a m ≡ r → IsQuiet (settlement r).change
 quiet_settled c a m (Ok o) not_spared e = quiet_judged c a m o not_spared e
@@ -463,14 +463,14 @@ change_unseen names a b m (inside name effect) into (own, (db, there, fits)) qui
     (unseen_at names name other db (with_effect effect db) (get a other) (get b other) (bytes_eq other name) refl (ap (is_among_names names) (sym own) ∙ into)
     (effect_unseen effect db quiet) (λ at. ap (get a) at ∙ there) (like other)))
 
-pub answer_struck : (c : Configuration) (group : Group) (names : Names) (a b : Contents) (m : Message) → is_struck c group names m ≡ true → AreAlike names a b
+pub answer_struck : (c : Configuration) (group : CallerGroup) (names : Names) (a b : Contents) (m : Message) → is_struck c group names m ≡ true → AreAlike names a b
     → AreAlike names (with_change (answer c a m).change a) b
 answer_struck c group names a b m struck like =
     let parts = struck_parts (is_of_others c group m) (is_into names m) (is_spared m) struck in
     change_unseen names a b m (answer c a m).change parts.0 (answer_made c a m) (quiet_settled c a m (judgement c a m) parts.1 refl) like
 
 -- what stays keeps states alike
-pub answer_stays : (c : Configuration) (group : Group) (names : Names) (a b : Contents) (m : Message) → AreAlike names a b → AreHidden group names a → is_struck c group names m ≡ false
+pub answer_stays : (c : Configuration) (group : CallerGroup) (names : Names) (a b : Contents) (m : Message) → AreAlike names a b → AreHidden group names a → is_struck c group names m ≡ false
     → AreAlike names (with_change (answer c a m).change a) (with_change (answer c b m).change b)
 answer_stays c group names a b m like hidden stays =
     subst (λ (o : Outcome). AreAlike names (with_change (answer c a m).change a) (with_change o.change b)) (answer_hidden c group names a b m like hidden stays)
@@ -485,7 +485,7 @@ hidden_by (Some d) None e like is = absurd like
 hidden_by (Some d) (Some f) e like is = (d, refl, like ∙ ap (λ (x : Database). x.security) (let k : f ≡ e = cc in k))
 
 -- what is hidden in a state is hidden in those that are like it
-pub hidden_alike : (group : Group) (names : Names) (a b : Contents) → AreAlike names a b → AreHidden group names a → AreHidden group names b
+pub hidden_alike : (group : CallerGroup) (names : Names) (a b : Contents) → AreAlike names a b → AreHidden group names a → AreHidden group names b
 hidden_alike group names a b like hidden caller name e own among there =
     let k = hidden_by (get a name) (get b name) e (subst (λ (w : Bool). IsLikeWhere w (get a name) (get b name)) among (like name)) there in
     ap (λ (s : Value). is_member s caller) (sym k.2) ∙ hidden caller name k.0 own among k.1

@@ -16,14 +16,14 @@ use Rattle.policy.specs.declared.rule.Rule.{Rule}
 use Rattle.store.specs.Contents.{Contents}
 use Rattle.store.specs.Database.{Database, DocumentWrite, history_at}
 use Rattle.tree.specs.Revision.{Revision}
-use Rattle.tree.specs.History.{HistoryContent, placement}
+use Rattle.tree.specs.History.{HistoryContent, ancestors_of_parent, placement}
 use Rattle.tree.specs.Write.{head}
 use Rattle.tree.specs.declared.placement.Placed.TheVariants.{Added}
 use Rattle.tree.specs.declared.placement.TreeFault.TheVariants.{BadPath}
-use Rattle.write.specs.Admission.{admission, design_refusal, edit_path, new_revision, revision_after, unless_denied, write_at}
+use Rattle.write.specs.Admission.{admission, design_refusal, new_revision, revision_after, unless_denied, write_at}
 use Rattle.write.specs.Bulk.{DocumentOutcome, Histories, Told, after, all_told, outcome_in, outcome_of_revision, outcomes, put_before, result_told, writes_in}
 use Rattle.write.specs.Denials.{EditHasLeave, EditIsDueTo, IsDesignDenial, ReplicationHasLeave, ReplicationIsDueTo}
-use Rattle.write.specs.Document.{id_if, id_in, is_bulk_id, member_text}
+use Rattle.write.specs.Document.{id_in_bulk, id_in, is_bulk_id, member_text}
 use Rattle.write.specs.IndexWrites.{has_index, index_edit}
 use Rattle.write.specs.Settling.{after_all}
 use Rattle.write.specs.Terms.{Terms, terms_in}
@@ -31,11 +31,11 @@ use Rattle.write.specs.declared.fault.WriteFault.{WriteFault}
 use Rattle.write.specs.declared.fault.WriteFault.TheVariants as write
 use Rattle.write.specs.declared.planned.Outcome.TheVariants.{Made, Refused}
 use Rattle.write.proofs.Leave.{edit_appended, edit_appended_together, edit_due, edit_due_together, in_order, replication_appended_together, replication_due_together, unnamed_due}
-use Rattle.api.specs.Asking.{asker, body_of, denial, identity_or_refusal, method_of, plain}
+use Rattle.api.specs.Asking.{asker, json_body, denial, identity_or_refusal, method_named, plain}
 use Rattle.api.specs.Bulk.{Bulk, bulk_in}
 use Rattle.api.specs.Paths.{database_name_in, document_id_in}
 use Rattle.api.specs.Queries.{revision_query}
-use Rattle.api.specs.Refusals.{next, there_or}
+use Rattle.api.specs.Refusals.{and_then, there_or}
 use Rattle.api.specs.Routing.{page_of}
 use Rattle.api.specs.declared.method.RequestMethod.{RequestMethod}
 use Rattle.api.specs.declared.method.RequestMethod.TheVariants.{Get, Put, Post, Delete}
@@ -43,9 +43,9 @@ use Rattle.api.specs.declared.page.Page.{Page}
 use Rattle.api.specs.declared.page.Page.TheVariants.{AllDatabases, Database as DatabasePage, Security, BulkDocuments, AllDocuments, Changes, Differences, Find, Index, View, Document, LocalDocument as LocalDocumentPage}
 use Rattle.api.specs.declared.refusal.Refusal.{Refusal}
 use Rattle.api.specs.declared.refusal.Refusal.TheVariants.{Path, DatabaseName, Id, Query, Body}
-use Rattle.node.specs.Answer.{Task, listed, admin_task, administration, answer, entry, judgement, outcome_in as outcome_of_work, page_outcome, permission, settlement, task_outcome, work_task, worked}
+use Rattle.node.specs.Answer.{Task, listed, admin_task, administration, answer, entry, judgement, outcome_in_database as outcome_of_work, page_outcome, permission, settlement, task_outcome, work_task, worked}
 use Rattle.node.specs.Bulk.{bulk_reply, edit_listed, edit_members, element_list, failed_members, failure_listed, failures_listed, if_failed, made_members}
-use Rattle.node.specs.Denials.{IsAskedAt, IsDenied, IsDue, IsOf, IsOwn, IsReached, WritesBy}
+use Rattle.node.specs.Denials.{IsAskedAt, IsDenied, IsDue, IsSecurityOf, IsOwn, IsReached, WritesBy}
 use Rattle.node.specs.Leave.{EditMayBeMade, IsAmong, answer_with, appending, back_outcomes, edit_answer, edit_made, front_outcomes, histories_left, shared_terms}
 use Rattle.node.specs.Work.{Work, read_work}
 use Rattle.node.specs.Works.{bulk_written, change_list, database_read, deletion, deletion_outcome, difference_list, document_deleted, document_finds, document_list, document_read, document_written, documents_written, edit_asked, edit_done, index_asked_in, index_done, index_written, local_read, local_written, security_read, security_written, view_read}
@@ -58,48 +58,48 @@ ill e = Err e
 module _ (a : Contents) (m : Message) (caller : Identity) where
   -- the conditions of an action deny work in a database before it begins
   work_denied : (action : Action) (w : List ℕ → Work) (security : Value) (rule : Rule) → IsOwn a m security → verdict action caller security ≡ Some rule
-      → next (work_task action m w) (task_outcome caller a) ≡ Err (denial caller rule)
+      → and_then (work_task action m w) (task_outcome caller a) ≡ Err (denial caller rule)
   work_denied action w security rule own first =
-      ap (λ (o : Option (List ℕ)). next (next (there_or DatabaseName o) (λ name. Ok (worked action name (w name)))) (task_outcome caller a)) own.own
-      ∙ ap (λ (o : Option Database). next (entry caller action o) (λ db. next (w own.name db) (λ d. Ok (outcome_of_work own.name d)))) own.there
-      ∙ ap (λ (o : Option Rule). next (next (permission caller o) (λ _. Ok own.db)) (λ db. next (w own.name db) (λ d. Ok (outcome_of_work own.name d))))
+      ap (λ (o : Option (List ℕ)). and_then (and_then (there_or DatabaseName o) (λ name. Ok (worked action name (w name)))) (task_outcome caller a)) own.own
+      ∙ ap (λ (o : Option Database). and_then (entry caller action o) (λ db. and_then (w own.name db) (λ d. Ok (outcome_of_work own.name d)))) own.there
+      ∙ ap (λ (o : Option Rule). and_then (and_then (permission caller o) (λ _. Ok own.db)) (λ db. and_then (w own.name db) (λ d. Ok (outcome_of_work own.name d))))
       (sym (ap (verdict action caller) own.is) ∙ first)
 
   -- what they don't deny comes to the work
   work_begun : (action : Action) (w : List ℕ → Work) (name : List ℕ) (db : Database) → database_name_in m.path ≡ Some name → get a name ≡ Some db
-      → verdict action caller db.security ≡ None → next (work_task action m w) (task_outcome caller a) ≡ next (w name db) (λ d. Ok (outcome_of_work name d))
+      → verdict action caller db.security ≡ None → and_then (work_task action m w) (task_outcome caller a) ≡ and_then (w name db) (λ d. Ok (outcome_of_work name d))
   work_begun action w name db own there allowed =
-      ap (λ (o : Option (List ℕ)). next (next (there_or DatabaseName o) (λ n. Ok (worked action n (w n)))) (task_outcome caller a)) own
-      ∙ ap (λ (o : Option Database). next (entry caller action o) (λ d. next (w name d) (λ e. Ok (outcome_of_work name e)))) there
-      ∙ ap (λ (o : Option Rule). next (next (permission caller o) (λ _. Ok db)) (λ d. next (w name d) (λ e. Ok (outcome_of_work name e)))) allowed
+      ap (λ (o : Option (List ℕ)). and_then (and_then (there_or DatabaseName o) (λ n. Ok (worked action n (w n)))) (task_outcome caller a)) own
+      ∙ ap (λ (o : Option Database). and_then (entry caller action o) (λ d. and_then (w name d) (λ e. Ok (outcome_of_work name e)))) there
+      ∙ ap (λ (o : Option Rule). and_then (and_then (permission caller o) (λ _. Ok db)) (λ d. and_then (w name d) (λ e. Ok (outcome_of_work name e)))) allowed
 
   -- who may not administer is denied so, once a database is named
   admin_denied : (t : List ℕ → Task) (rule : Rule) → IsSome (database_name_in m.path) → verdict Administer caller closed_security ≡ Some rule
-      → next (admin_task caller m t) (task_outcome caller a) ≡ Err (denial caller rule)
+      → and_then (admin_task caller m t) (task_outcome caller a) ≡ Err (denial caller rule)
   admin_denied t rule there first = by (database_name_in m.path) there
     where
       by : (o : Option (List ℕ)) → IsSome o
-          → next (next (there_or DatabaseName o) (λ name. next (administration caller) (λ _. Ok (t name)))) (task_outcome caller a) ≡ Err (denial caller rule)
+          → and_then (and_then (there_or DatabaseName o) (λ name. and_then (administration caller) (λ _. Ok (t name)))) (task_outcome caller a) ≡ Err (denial caller rule)
       by None none = absurd cc
-      by (Some name) is = ap (λ (v : Option Rule). next (next (permission caller v) (λ _. Ok (t name))) (task_outcome caller a)) first
+      by (Some name) is = ap (λ (v : Option Rule). and_then (and_then (permission caller v) (λ _. Ok (t name))) (task_outcome caller a)) first
 
 -- ---- by the conditions of an action
 
-module _ (a : Contents) (m : Message) (caller : Identity) (action : Action) (security : Value) (rule : Rule) (of : IsOf action a m security) (first : verdict action caller security ≡ Some rule) where
-  by_work : (asked : Action) (w : List ℕ → Work) → action ≡ asked → (IsOf asked a m security → IsOwn a m security) → next (work_task asked m w) (task_outcome caller a) ≡ Err (denial caller rule)
+module _ (a : Contents) (m : Message) (caller : Identity) (action : Action) (security : Value) (rule : Rule) (of : IsSecurityOf action a m security) (first : verdict action caller security ≡ Some rule) where
+  by_work : (asked : Action) (w : List ℕ → Work) → action ≡ asked → (IsSecurityOf asked a m security → IsOwn a m security) → and_then (work_task asked m w) (task_outcome caller a) ≡ Err (denial caller rule)
   by_work asked w is own =
-      work_denied a m caller asked w security rule (own (subst (λ (x : Action). IsOf x a m security) is of)) (subst (λ (x : Action). verdict x caller security ≡ Some rule) is first)
+      work_denied a m caller asked w security rule (own (subst (λ (x : Action). IsSecurityOf x a m security) is of)) (subst (λ (x : Action). verdict x caller security ≡ Some rule) is first)
 
   administers : action ≡ Administer → verdict Administer caller closed_security ≡ Some rule
   administers is =
-      let closed : security ≡ closed_security = subst (λ (x : Action). IsOf x a m security) is of in
+      let closed : security ≡ closed_security = subst (λ (x : Action). IsSecurityOf x a m security) is of in
       sym (ap (verdict Administer caller) closed) ∙ subst (λ (x : Action). verdict x caller security ≡ Some rule) is first
 
-  by_admin : (t : List ℕ → Task) → action ≡ Administer → IsReached DatabasePage action m → next (admin_task caller m t) (task_outcome caller a) ≡ Err (denial caller rule)
+  by_admin : (t : List ℕ → Task) → action ≡ Administer → IsReached DatabasePage action m → and_then (admin_task caller m t) (task_outcome caller a) ≡ Err (denial caller rule)
   by_admin t is reached = admin_denied a m caller t rule (subst (λ (x : Action). IsReached DatabasePage x m) is reached) (administers is)
 
   page_denied : (page : Page) (method : Option RequestMethod) → IsAskedAt page method action → IsReached page action m → page_outcome page method caller a m ≡ Err (denial caller rule)
-  page_denied AllDatabases (Some Get) is reached = ap (λ (v : Option Rule). next (next (permission caller v) (λ _. next (plain m) (λ _. Ok listed))) (task_outcome caller a)) (administers is)
+  page_denied AllDatabases (Some Get) is reached = ap (λ (v : Option Rule). and_then (and_then (permission caller v) (λ _. and_then (plain m) (λ _. Ok listed))) (task_outcome caller a)) (administers is)
   page_denied DatabasePage (Some Get) is reached = by_work Read (λ name. read_work (database_read m name)) is (λ own. own)
   page_denied DatabasePage (Some Put) is reached = by_admin _ is reached
   page_denied DatabasePage (Some Delete) is reached = by_admin _ is reached
@@ -127,24 +127,24 @@ refused_by terms id rule due = ap (λ b. cond b (verdict WriteDesign terms.calle
 module _ (a : Contents) (m : Message) (caller : Identity) (name : List ℕ) (db : Database) (own : database_name_in m.path ≡ Some name) (there : get a name ≡ Some db) (member : verdict WriteDocument caller db.security ≡ None) where
   asked_is : (id : List ℕ) (query : Option Revision) → document_id_in m.path ≡ Some id → revision_query m.query ≡ Some query → edit_asked m ≡ Ok (id, query)
   asked_is id query leads named =
-      ap (λ (o : Option (List ℕ)). next (there_or Id o) (λ i. next (there_or Query (revision_query m.query)) (λ rev. Ok (i, rev)))) leads
-      ∙ ap (λ (o : Option (Option Revision)). next (there_or Query o) (λ rev. Ok (id, rev))) named
+      ap (λ (o : Option (List ℕ)). and_then (there_or Id o) (λ i. and_then (there_or Query (revision_query m.query)) (λ rev. Ok (i, rev)))) leads
+      ∙ ap (λ (o : Option (Option Revision)). and_then (there_or Query o) (λ rev. Ok (id, rev))) named
 
   -- a PUT comes to the edit that its body says
-  put_is : (id : List ℕ) (query : Option Revision) (document : Value) → document_id_in m.path ≡ Some id → revision_query m.query ≡ Some query → body_of m ≡ Ok document
-      → page_outcome Document (Some Put) caller a m ≡ next (edit_done caller 201 id (admission (terms_in caller name db) db id query document)) (λ d. Ok (outcome_of_work name d))
+  put_is : (id : List ℕ) (query : Option Revision) (document : Value) → document_id_in m.path ≡ Some id → revision_query m.query ≡ Some query → json_body m ≡ Ok document
+      → page_outcome Document (Some Put) caller a m ≡ and_then (edit_done caller 201 id (admission (terms_in caller name db) db id query document)) (λ d. Ok (outcome_of_work name d))
   put_is id query document leads named body =
       work_begun a m caller WriteDocument (λ n. document_written caller m n) name db own there member
-      ∙ ap (λ (r : Result (List ℕ × Option Revision) Refusal). next (next r (λ asked. next (body_of m) (λ v. edit_done caller 201 asked.0 (admission (terms_in caller name db) db asked.0 asked.1 v)))) (λ d. Ok (outcome_of_work name d)))
+      ∙ ap (λ (r : Result (List ℕ × Option Revision) Refusal). and_then (and_then r (λ asked. and_then (json_body m) (λ v. edit_done caller 201 asked.0 (admission (terms_in caller name db) db asked.0 asked.1 v)))) (λ d. Ok (outcome_of_work name d)))
       (asked_is id query leads named)
-      ∙ ap (λ (r : Result Value Refusal). next (next r (λ v. edit_done caller 201 id (admission (terms_in caller name db) db id query v))) (λ d. Ok (outcome_of_work name d))) body
+      ∙ ap (λ (r : Result Value Refusal). and_then (and_then r (λ v. edit_done caller 201 id (admission (terms_in caller name db) db id query v))) (λ d. Ok (outcome_of_work name d))) body
 
   -- a DELETE comes to the deletion of what its query names
   deletion_is : (id : List ℕ) (query : Option Revision) → document_id_in m.path ≡ Some id → revision_query m.query ≡ Some query
-      → page_outcome Document (Some Delete) caller a m ≡ next (edit_done caller 200 id (deletion_outcome (terms_in caller name db) db id query)) (λ d. Ok (outcome_of_work name d))
+      → page_outcome Document (Some Delete) caller a m ≡ and_then (edit_done caller 200 id (deletion_outcome (terms_in caller name db) db id query)) (λ d. Ok (outcome_of_work name d))
   deletion_is id query leads named =
       work_begun a m caller WriteDocument (λ n. document_deleted caller m n) name db own there member
-      ∙ ap (λ (r : Result (List ℕ × Option Revision) Refusal). next (next r (λ asked. edit_done caller 200 asked.0 (deletion_outcome (terms_in caller name db) db asked.0 asked.1))) (λ d. Ok (outcome_of_work name d)))
+      ∙ ap (λ (r : Result (List ℕ × Option Revision) Refusal). and_then (and_then r (λ asked. edit_done caller 200 asked.0 (deletion_outcome (terms_in caller name db) db asked.0 asked.1))) (λ d. Ok (outcome_of_work name d)))
       (asked_is id query leads named)
 
   -- the deletion of a revision is the edit that has no members but the mark
@@ -154,8 +154,8 @@ module _ (a : Contents) (m : Message) (caller : Identity) (name : List ℕ) (db 
   deletion_names id (Some rev) document some is = ap (admission (terms_in caller name db) db id (Some rev)) (sym is)
 
   done_denied : (status : ℕ) (id : List ℕ) (r : Result DocumentWrite WriteFault) (rule : Rule) → r ≡ Err (write.Denied rule)
-      → next (edit_done caller status id r) (λ d. Ok (outcome_of_work name d)) ≡ Err (denial caller rule)
-  done_denied status id r rule is = ap (λ (x : Result DocumentWrite WriteFault). next (edit_done caller status id x) (λ d. Ok (outcome_of_work name d))) is
+      → and_then (edit_done caller status id r) (λ d. Ok (outcome_of_work name d)) ≡ Err (denial caller rule)
+  done_denied status id r rule is = ap (λ (x : Result DocumentWrite WriteFault). and_then (edit_done caller status id x) (λ d. Ok (outcome_of_work name d))) is
 
   edit_denied_so : (mm : Option RequestMethod) (id : List ℕ) (query : Option Revision) (document : Value) (rule : Rule) → document_id_in m.path ≡ Some id → revision_query m.query ≡ Some query
       → WritesBy mm m query document → EditIsDueTo (terms_in caller name db) id (history_at db id) query document rule → page_outcome Document mm caller a m ≡ Err (denial caller rule)
@@ -170,14 +170,14 @@ module _ (a : Contents) (m : Message) (caller : Identity) (name : List ℕ) (db 
       → page_outcome Document (Some Delete) caller a m ≡ Err (denial caller rule)
   deletion_denied_so id rule leads named due = deletion_is id None leads named ∙ done_denied 200 id _ rule (unnamed_due (terms_in caller name db) id rule due)
 
-  index_denied_so : (value : Value) (index : IndexAsked) (rule : Rule) → plain m ≡ Ok tt → body_of m ≡ Ok value → index_in value ≡ Some index
+  index_denied_so : (value : Value) (index : IndexAsked) (rule : Rule) → plain m ≡ Ok tt → json_body m ≡ Ok value → index_in value ≡ Some index
       → IsDesignDenial (terms_in caller name db) index.design rule → page_outcome Index (Some Post) caller a m ≡ Err (denial caller rule)
   index_denied_so value index rule plainly body asks due =
       work_begun a m caller WriteDocument (λ n. index_written caller m n) name db own there member
-      ∙ ap (λ (r : Result (Unit {0}) Refusal). next (next r (λ _. next (body_of m) (λ v. next (there_or Body (index_in v)) (λ asked. index_asked_in caller name db asked)))) (λ d. Ok (outcome_of_work name d))) plainly
-      ∙ ap (λ (r : Result Value Refusal). next (next r (λ v. next (there_or Body (index_in v)) (λ asked. index_asked_in caller name db asked))) (λ d. Ok (outcome_of_work name d))) body
-      ∙ ap (λ (o : Option IndexAsked). next (next (there_or Body o) (λ asked. index_asked_in caller name db asked)) (λ d. Ok (outcome_of_work name d))) asks
-      ∙ ap (λ (r : DocumentOutcome). next (index_done caller index.design index.name r) (λ d. Ok (outcome_of_work name d)))
+      ∙ ap (λ (r : Result (Unit {0}) Refusal). and_then (and_then r (λ _. and_then (json_body m) (λ v. and_then (there_or Body (index_in v)) (λ asked. index_asked_in caller name db asked)))) (λ d. Ok (outcome_of_work name d))) plainly
+      ∙ ap (λ (r : Result Value Refusal). and_then (and_then r (λ v. and_then (there_or Body (index_in v)) (λ asked. index_asked_in caller name db asked))) (λ d. Ok (outcome_of_work name d))) body
+      ∙ ap (λ (o : Option IndexAsked). and_then (and_then (there_or Body o) (λ asked. index_asked_in caller name db asked)) (λ d. Ok (outcome_of_work name d))) asks
+      ∙ ap (λ (r : DocumentOutcome). and_then (index_done caller index.design index.name r) (λ d. Ok (outcome_of_work name d)))
       (ap (λ (o : Option Rule). unless_denied o (cond (has_index (history_at db index.design) index.name index.fields) (Ok None) (index_edit (terms_in caller name db) index.design (history_at db index.design) index.name index.fields)))
       (refused_by (terms_in caller name db) index.design rule due))
 
@@ -185,18 +185,18 @@ module _ (a : Contents) (m : Message) (caller : Identity) (name : List ℕ) (db 
 
 -- the page that was asked for decides, of a known caller
 on_page : (c : Configuration) (a : Contents) (m : Message) (caller : Identity) (page : Page) → asker c m ≡ Ok caller → page_of m.path ≡ Some page
-    → judgement c a m ≡ page_outcome page (method_of m.method) caller a m
+    → judgement c a m ≡ page_outcome page (method_named m.method) caller a m
 on_page c a m caller page known leads =
-    ap (λ (r : Result Identity Refusal). next r (λ who. next (there_or Path (page_of m.path)) (λ p. page_outcome p (method_of m.method) who a m))) known
-    ∙ ap (λ (o : Option Page). next (there_or Path o) (λ p. page_outcome p (method_of m.method) caller a m)) leads
+    ap (λ (r : Result Identity Refusal). and_then r (λ who. and_then (there_or Path (page_of m.path)) (λ p. page_outcome p (method_named m.method) who a m))) known
+    ∙ ap (λ (o : Option Page). and_then (there_or Path o) (λ p. page_outcome p (method_named m.method) caller a m)) leads
 
 due_denied : (c : Configuration) (a : Contents) (m : Message) (caller : Identity) (rule : Rule) → asker c m ≡ Ok caller → IsDue a m caller rule → judgement c a m ≡ Err (denial caller rule)
 due_denied c a m caller rule known (inl by) =
     on_page c a m caller by.asked.page known by.asked.leads
-    ∙ page_denied a m caller by.action by.security rule by.of by.first by.asked.page (method_of m.method) by.asked.asked by.asked.reached
+    ∙ page_denied a m caller by.action by.security rule by.of by.first by.asked.page (method_named m.method) by.asked.asked by.asked.reached
 due_denied c a m caller rule known (inr (inl by)) =
     on_page c a m caller Document known by.page
-    ∙ edit_denied_so a m caller by.name by.db by.own by.there by.member (method_of m.method) by.id by.query by.document rule by.leads by.named by.writes by.due
+    ∙ edit_denied_so a m caller by.name by.db by.own by.there by.member (method_named m.method) by.id by.query by.document rule by.leads by.named by.writes by.due
 due_denied c a m caller rule known (inr (inr (inl by))) =
     on_page c a m caller Document known by.page ∙ ap (λ (mm : Option RequestMethod). page_outcome Document mm caller a m) by.method
     ∙ deletion_denied_so a m caller by.name by.db by.own by.there by.member by.id rule by.leads by.named by.due
@@ -206,7 +206,7 @@ due_denied c a m caller rule known (inr (inr (inr by))) =
 
 pub denied_answered : (c : Configuration) (a : Contents) (m : Message) (refusal : Refusal) (rule : Rule) → IsDenied c a m refusal rule → judgement c a m ≡ Err refusal
 denied_answered c a m refusal rule (inl un) =
-    ap (λ (r : Result Identity Refusal). next r (λ who. next (there_or Path (page_of m.path)) (λ p. page_outcome p (method_of m.method) who a m))) (ap identity_or_refusal un.refused)
+    ap (λ (r : Result Identity Refusal). and_then r (λ who. and_then (there_or Path (page_of m.path)) (λ p. page_outcome p (method_named m.method) who a m))) (ap identity_or_refusal un.refused)
     ∙ ap (λ (x : Refusal). ill x) (sym un.told)
 denied_answered c a m refusal rule (inr told) = due_denied c a m told.caller rule told.known told.due ∙ ap (λ (x : Refusal). ill x) (sym told.told)
 
@@ -214,9 +214,9 @@ denied_answered c a m refusal rule (inr told) = due_denied c a m told.caller rul
 
 module _ (c : Configuration) (a : Contents) (m : Message) where
   made_done : (caller : Identity) (status : ℕ) (name id : List ℕ) (path : List Revision) (rev : Revision) (r : Result DocumentWrite WriteFault) (w : DocumentWrite) → r ≡ Ok w → new_revision w ≡ Some rev
-      → settlement (next (edit_done caller status id r) (λ d. Ok (outcome_of_work name d))) ≡ appending status (object (made_members (Some id) rev)) name (w ∷ [])
+      → settlement (and_then (edit_done caller status id r) (λ d. Ok (outcome_of_work name d))) ≡ appending status (object (made_members (Some id) rev)) name (w ∷ [])
   made_done caller status name id path rev r w is makes =
-      ap (λ (x : Result DocumentWrite WriteFault). settlement (next (edit_done caller status id x) (λ d. Ok (outcome_of_work name d)))) is
+      ap (λ (x : Result DocumentWrite WriteFault). settlement (and_then (edit_done caller status id x) (λ d. Ok (outcome_of_work name d)))) is
       ∙ ap (λ (n : Option Revision). appending status (object (edit_members caller (Some id) (outcome_of_revision n))) name (w ∷ [])) makes
 
   pub put_accepted : (edit : EditMayBeMade c a m Put) → answer c a m ≡ edit_answer 201 edit
@@ -281,7 +281,7 @@ own_text document id is = by (member_text (codes "_id") document) is
     if true t e = e
     if false t e = absurd cc
 
-    by : (o : Option (List ℕ)) → option_and_then (λ t. id_if t) o ≡ Some id → o ≡ Some id
+    by : (o : Option (List ℕ)) → option_and_then (λ t. id_in_bulk t) o ≡ Some id → o ≡ Some id
     by None e = absurd cc
     by (Some t) e = if (is_bulk_id t) t e
 
@@ -317,9 +317,9 @@ module _ {c : Configuration} {a : Contents} {m : Message} {new_edits : Bool} (am
       ap settlement (on_page c a m caller BulkDocuments among.place.known among.place.leads
       ∙ ap (λ (mm : Option RequestMethod). page_outcome BulkDocuments mm caller a m) among.place.by
       ∙ work_begun a m caller WriteDocument (λ n. documents_written caller m n) among.place.name among.place.db among.place.own among.place.there among.place.member
-      ∙ ap (λ (r : Result (Unit {0}) Refusal). next (next r (λ _. next (body_of m) (λ v. next (there_or Body (bulk_in v)) (λ b. bulk_written caller b among.place.name among.place.db)))) (λ d. Ok (outcome_of_work among.place.name d))) among.query
-      ∙ ap (λ (r : Result Value Refusal). next (next r (λ v. next (there_or Body (bulk_in v)) (λ b. bulk_written caller b among.place.name among.place.db))) (λ d. Ok (outcome_of_work among.place.name d))) among.body
-      ∙ ap (λ (o : Option Bulk). next (next (there_or Body o) (λ b. bulk_written caller b among.place.name among.place.db)) (λ d. Ok (outcome_of_work among.place.name d))) among.asks)
+      ∙ ap (λ (r : Result (Unit {0}) Refusal). and_then (and_then r (λ _. and_then (json_body m) (λ v. and_then (there_or Body (bulk_in v)) (λ b. bulk_written caller b among.place.name among.place.db)))) (λ d. Ok (outcome_of_work among.place.name d))) among.query
+      ∙ ap (λ (r : Result Value Refusal). and_then (and_then r (λ v. and_then (there_or Body (bulk_in v)) (λ b. bulk_written caller b among.place.name among.place.db))) (λ d. Ok (outcome_of_work among.place.name d))) among.body
+      ∙ ap (λ (o : Option Bulk). and_then (and_then (there_or Body o) (λ b. bulk_written caller b among.place.name among.place.db)) (λ d. Ok (outcome_of_work among.place.name d))) among.asks)
 
   writes_are : writes_in (outcomes terms new_edits own (among.front ++ among.document ∷ among.back)) ≡ writes_in (front_outcomes among) ++ put_before outcome [] ++ writes_in (back_outcomes among outcome)
   writes_are =
@@ -353,9 +353,9 @@ module _ {c : Configuration} {a : Contents} {m : Message} {new_edits : Bool} (am
 module _ (c : Configuration) (a : Contents) (m : Message) where
   pub bulk_edit_accepted : (rev : Revision) (among : IsAmong c a m true) (leave : EditHasLeave (shared_terms among) among.id (histories_left among among.id) None among.document)
       → revision_after leave.sent leave.parent ≡ Some rev
-      → answer c a m ≡ answer_with among (Ok (Some (write_at among.id (edit_path (histories_left among among.id) leave.parent rev) leave.sent))) (object (made_members (Some among.id) rev) ∷ [])
+      → answer c a m ≡ answer_with among (Ok (Some (write_at among.id (rev ∷ ancestors_of_parent (histories_left among among.id) leave.parent) leave.sent))) (object (made_members (Some among.id) rev) ∷ [])
   bulk_edit_accepted rev among leave further =
-      answer_by among (Ok (Some (write_at among.id (edit_path (histories_left among among.id) leave.parent rev) leave.sent))) (object (made_members (Some among.id) rev) ∷ [])
+      answer_by among (Ok (Some (write_at among.id (rev ∷ ancestors_of_parent (histories_left among among.id) leave.parent) leave.sent))) (object (made_members (Some among.id) rev) ∷ [])
       (edit_appended_together (shared_terms among) (histories_left among) among.id among.document among.named rev leave further)
       (ap (λ (i : Option (List ℕ)). object (made_members i rev) ∷ []) (own_text among.document among.id among.named))
 

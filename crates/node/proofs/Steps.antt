@@ -12,7 +12,7 @@ use Rattle.store.specs.Causes.{HasFailed}
 use Rattle.store.specs.declared.store.Store.{Ghosts}
 use Rattle.store.specs.Contents.{Contents, new_database}
 use Rattle.store.specs.Database.{Database, DocumentWrite, IsLater}
-use Rattle.store.specs.Lawful.{AreLawful, IsLawful}
+use Rattle.store.specs.Lawful.{AreLawful, IsLawfulDatabase}
 use Rattle.store.proofs.Laters.{later_by_all, later_itself}
 use Rattle.store.proofs.Lawfuls.{lawful_by_all, lawful_empty, lawful_insert, lawful_local, lawful_remove, lawful_secured}
 use Rattle.policy.specs.Security.{closed_security}
@@ -22,7 +22,7 @@ use Rattle.node.specs.Effects.{Fits, IsLaterThan}
 use Rattle.api.specs.Paths.{database_name_in}
 use Rattle.api.specs.Refusals.{status_of}
 use Rattle.api.specs.Routing.{page_of}
-use Rattle.node.specs.Runs.{AreServed, IsRun, IsServed, Stepped, Steps, end_of, messages_of}
+use Rattle.node.specs.Runs.{AreServed, IsRun, IsServedReply, Stepped, Steps, end_of, messages_of}
 use Rattle.node.specs.Step.{IsDone, IsStep, reply_to}
 use Rattle.node.specs.Work.{Effect, appended, local_put, nothing, secured, with_effect}
 use Rattle.api.specs.declared.page.Page.TheVariants.{AllDatabases}
@@ -90,7 +90,7 @@ answer_made c a m = made_in a m (answer c a m) (answered c a m)
 
 -- ---- lawfulness
 
-effect_lawful : (effect : Effect) (db : Database) → IsLawful db → Fits effect db → IsLawful (with_effect effect db)
+effect_lawful : (effect : Effect) (db : Database) → IsLawfulDatabase db → Fits effect db → IsLawfulDatabase (with_effect effect db)
 effect_lawful nothing db lawful fits = lawful
 effect_lawful (appended ws) db lawful fits = lawful_by_all ws db lawful fits
 effect_lawful (secured v) db lawful fits = lawful_secured db v lawful
@@ -221,7 +221,7 @@ step_later c before m cause reply after name db step other there = by (step_chan
     by (inr e) = later_same db (get after name) (ap (λ (x : Contents). get x name) e ∙ there)
 
 -- a step whose reply stands for no failure is the answer
-pub step_done : (c : Configuration) (before : Contents) (m : Message) (cause : Change → Type 0) (reply : Reply) (after : Contents) → IsStep c before m cause reply after → IsServed reply
+pub step_done : (c : Configuration) (before : Contents) (m : Message) (cause : Change → Type 0) (reply : Reply) (after : Contents) → IsStep c before m cause reply after → IsServedReply reply
     → IsDone (answer c before m) m.last before reply after
 step_done c before m cause reply after (inl done) served = done
 step_done c before m cause reply after (inr (inl no_room)) served = absurd (served.1 (ap (λ (r : Reply). r.status) no_room.0))
@@ -234,7 +234,7 @@ run_lawful c before (s ∷ ss) run lawful = run_lawful c s.after ss run.1 (step_
 same_step : (s t : Stepped Contents) → s.message ≡ t.message → s.reply ≡ t.reply → s.after ≡ t.after → s ≡ t
 same_step s t e f g = λ i. record { message = e i; reply = f i; after = g i }
 
-one_step : (c : Configuration) (before : Contents) (s t : Stepped Contents) → Steps c before s.message s.reply s.after → Steps c before t.message t.reply t.after → IsServed s.reply → IsServed t.reply
+one_step : (c : Configuration) (before : Contents) (s t : Stepped Contents) → Steps c before s.message s.reply s.after → Steps c before t.message t.reply t.after → IsServedReply s.reply → IsServedReply t.reply
     → s.message ≡ t.message → s ≡ t
 one_step c before s t p q served and_served same =
     let d = step_done c before s.message (λ _. ⊤) s.reply s.after p served in

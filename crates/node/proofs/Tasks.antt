@@ -11,7 +11,7 @@ use Rattle.policy.specs.declared.action.Action.{Action}
 use Rattle.policy.specs.declared.action.Action.TheVariants.{Read, WriteSecurity, WriteDocument}
 use Rattle.store.specs.Contents.{AreAcceptable, Contents, local_at}
 use Rattle.store.specs.Database.{Database, DocumentWrite}
-use Rattle.store.specs.Lawful.{IsBody, IsLawful}
+use Rattle.store.specs.Lawful.{IsBody, IsLawfulDatabase}
 use Rattle.store.specs.declared.local_document.LocalDocument.{LocalDocument}
 use Rattle.write.specs.LocalWrites.{local_outcome}
 use Rattle.write.specs.Planning.{security_outcome}
@@ -25,16 +25,16 @@ use Rattle.write.specs.Bulk.{DocumentOutcome, writes_in}
 use Rattle.write.specs.IndexWrites.{index_admission}
 use Rattle.write.proofs.Acceptances.{all_acceptable, edit_acceptable, index_alone_acceptable}
 use Rattle.tree.specs.Revision.{Revision}
-use Rattle.api.specs.Asking.{asker, body_of, method_of, plain}
+use Rattle.api.specs.Asking.{asker, json_body, method_named, plain}
 use Rattle.api.specs.Bulk.{bulk_in}
 use Rattle.api.specs.Routing.{page_of}
 use Rattle.write.specs.declared.fault.WriteFault.TheVariants.{BadDocument}
 use Rattle.write.specs.declared.fault.WriteFault.TheVariants as write
-use Rattle.node.specs.Answer.{Change, Outcome, Task, administration, permission, change_at, created, creation, entry, admin_task, inside, judgement, kept, listed, database_name_of, outcome_in, task_outcome, removal, removed, page_outcome, task_of, told, welcome, worked, work_task}
+use Rattle.node.specs.Answer.{Change, Outcome, Task, administration, permission, change_at, created, creation, entry, admin_task, inside, judgement, kept, listed, database_name_of, outcome_in_database, task_outcome, removal, removed, page_outcome, task_of, told, welcome, worked, work_task}
 use Rattle.node.specs.Effects.{Fits}
 use Rattle.api.specs.Paths.{database_name_in, local_id_in}
 use Rattle.node.specs.Work.{Done, Effect, Work, appended, local_put, nothing, read_work, secured, value_done}
-use Rattle.api.specs.Refusals.{next, there_or, true_or}
+use Rattle.api.specs.Refusals.{and_then, there_or, true_or}
 use Rattle.node.specs.Works.{change_list, database_read, difference_list, document_deleted, document_finds, document_list, document_read, document_written, documents_written, deletion, deletion_outcome, done, edit_asked, bulk_written, edit_done, edit_in, index_asked_in, index_done, index_written, local_read, local_set, local_written, security_read, security_set, security_written, view_read}
 use Rattle.api.specs.declared.method.RequestMethod.{RequestMethod}
 use Rattle.api.specs.declared.method.RequestMethod.TheVariants.{Get, Put, Post, Delete}
@@ -51,11 +51,11 @@ pub record Went {A B : Type 0} (r : Result A Refusal) (go : A → Result B Refus
   pub was : r ≡ Ok first
   pub then : go first ≡ Ok b
 
-pub went : {A B : Type 0} (r : Result A Refusal) (go : A → Result B Refusal) (b : B) → next r go ≡ Ok b → Went r go b
+pub went : {A B : Type 0} (r : Result A Refusal) (go : A → Result B Refusal) (b : B) → and_then r go ≡ Ok b → Went r go b
 went (Ok a) go b e = record { first = a; was = refl; then = e }
 went (Err refusal) go b e = absurd cc
 
-pub next_same : {A B : Type 0} (r : Result A Refusal) (f g : A → Result B Refusal) → ((a : A) → r ≡ Ok a → f a ≡ g a) → next r f ≡ next r g
+pub next_same : {A B : Type 0} (r : Result A Refusal) (f g : A → Result B Refusal) → ((a : A) → r ≡ Ok a → f a ≡ g a) → and_then r f ≡ and_then r g
 next_same (Ok a) f g agree = agree a refl
 next_same (Err refusal) f g agree = refl
 
@@ -78,7 +78,7 @@ absent r (Some a) e = absurd cc
 -- what work comes to is told as a success, and its effect fits a lawful database
 pub record IsSound (db : Database) (d : Done) : Type 0 where
   pub status : (d.status ≡ 200) ⊎ (d.status ≡ 201)
-  pub fits : IsLawful db → Fits d.effect db
+  pub fits : IsLawfulDatabase db → Fits d.effect db
 
 abbrev pub AreSound : Work → Type 0
 AreSound work = (db : Database) (d : Done) → work db ≡ Ok d → IsSound db d
@@ -90,8 +90,8 @@ sound_reading read db d e =
 
 sound_security : (m : Message) → AreSound (security_written m)
 sound_security m db d e =
-    let k = went (plain m) (λ _. next (body_of m) (λ value. security_set (security_outcome value))) d e in
-    let l = went (body_of m) (λ value. security_set (security_outcome value)) d k.then in
+    let k = went (plain m) (λ _. and_then (json_body m) (λ value. security_set (security_outcome value))) d e in
+    let l = went (json_body m) (λ value. security_set (security_outcome value)) d k.then in
     by l.first (is_security l.first) refl l.then
   where
     by : (v : Value) (b : Bool) → is_security v ≡ b → security_set (security_outcome v) ≡ Ok d → IsSound db d
@@ -103,26 +103,26 @@ sound_security m db d e =
         absurd (let k : Err Body ≡ well d = subst P is h in cc)
 
 sound_edited : (caller : Identity) (status : ℕ) (id : List ℕ) (db : Database) (r : Result DocumentWrite WriteFault) (d : Done) → (status ≡ 200) ⊎ (status ≡ 201)
-    → ((w : DocumentWrite) → r ≡ Ok w → IsLawful db → AreAcceptable db (w ∷ [])) → edit_done caller status id r ≡ Ok d → IsSound db d
+    → ((w : DocumentWrite) → r ≡ Ok w → IsLawfulDatabase db → AreAcceptable db (w ∷ [])) → edit_done caller status id r ≡ Ok d → IsSound db d
 sound_edited caller status id db (Ok w) d good ok e = subst (λ (x : Done). IsSound db x) (same {A = Done} _ d e) (record { status = good; fits = λ lawful. ok w refl lawful })
 sound_edited caller status id db (Err fault) d good ok e = absurd cc
 
-edit_fits : (terms : Terms) (db : Database) (id : List ℕ) (query : Option Revision) (document : Value) (w : DocumentWrite) → admission terms db id query document ≡ Ok w → IsLawful db
+edit_fits : (terms : Terms) (db : Database) (id : List ℕ) (query : Option Revision) (document : Value) (w : DocumentWrite) → admission terms db id query document ≡ Ok w → IsLawfulDatabase db
     → AreAcceptable db (w ∷ [])
 edit_fits terms db id query document w e lawful = (edit_acceptable terms db id query document w lawful e, tt)
 
 sound_document : (caller : Identity) (m : Message) (name : List ℕ) → AreSound (document_written caller m name)
 sound_document caller m name db d e =
     let terms = terms_in caller name db in
-    let k = went (edit_asked m) (λ asked. next (body_of m) (λ document. edit_in caller 201 name db asked.0 asked.1 document)) d e in
-    let l = went (body_of m) (λ document. edit_in caller 201 name db k.first.0 k.first.1 document) d k.then in
+    let k = went (edit_asked m) (λ asked. and_then (json_body m) (λ document. edit_in caller 201 name db asked.0 asked.1 document)) d e in
+    let l = went (json_body m) (λ document. edit_in caller 201 name db k.first.0 k.first.1 document) d k.then in
     sound_edited caller 201 k.first.0 db (admission terms db k.first.0 k.first.1 l.first) d (inr refl) (λ w. edit_fits terms db k.first.0 k.first.1 l.first w) l.then
 
 unnamed_refused : (o : Option Rule) (w : DocumentWrite) → unless_denied o (Err write.Conflict) ≡ Ok w → ⊥
 unnamed_refused None w e = absurd cc
 unnamed_refused (Some rule) w e = absurd cc
 
-deletion_fits : (terms : Terms) (db : Database) (id : List ℕ) (named : Option Revision) (w : DocumentWrite) → deletion_outcome terms db id named ≡ Ok w → IsLawful db
+deletion_fits : (terms : Terms) (db : Database) (id : List ℕ) (named : Option Revision) (w : DocumentWrite) → deletion_outcome terms db id named ≡ Ok w → IsLawfulDatabase db
     → AreAcceptable db (w ∷ [])
 deletion_fits terms db id None w e lawful = absurd (unnamed_refused (design_refusal terms id) w e)
 deletion_fits terms db id (Some rev) w e lawful = edit_fits terms db id (Some rev) deletion w e lawful
@@ -135,12 +135,12 @@ sound_deletion caller m name db d e =
 
 sound_documents : (caller : Identity) (m : Message) (name : List ℕ) → AreSound (documents_written caller m name)
 sound_documents caller m name db d e =
-    let k = went (plain m) (λ _. next (body_of m) (λ value. next (there_or Body (bulk_in value)) (λ bulk. bulk_written caller bulk name db))) d e in
-    let l = went (body_of m) (λ value. next (there_or Body (bulk_in value)) (λ bulk. bulk_written caller bulk name db)) d k.then in
+    let k = went (plain m) (λ _. and_then (json_body m) (λ value. and_then (there_or Body (bulk_in value)) (λ bulk. bulk_written caller bulk name db))) d e in
+    let l = went (json_body m) (λ value. and_then (there_or Body (bulk_in value)) (λ bulk. bulk_written caller bulk name db)) d k.then in
     let b = went (there_or Body (bulk_in l.first)) (λ bulk. bulk_written caller bulk name db) d l.then in
     subst (λ (x : Done). IsSound db x) (same {A = Done} _ d b.then) (record { status = inr refl; fits = λ lawful. all_acceptable (terms_in caller name db) b.first.new_edits db b.first.documents lawful })
 
-sound_declared : (caller : Identity) (id name : List ℕ) (db : Database) (r : DocumentOutcome) (d : Done) → (IsLawful db → AreAcceptable db (writes_in (r ∷ [])))
+sound_declared : (caller : Identity) (id name : List ℕ) (db : Database) (r : DocumentOutcome) (d : Done) → (IsLawfulDatabase db → AreAcceptable db (writes_in (r ∷ [])))
     → index_done caller id name r ≡ Ok d → IsSound db d
 sound_declared caller id name db (Ok w) d ok e = subst (λ (x : Done). IsSound db x) (same {A = Done} _ d e) (record { status = inl refl; fits = ok })
 sound_declared caller id name db (Err fault) d ok e = absurd cc
@@ -148,8 +148,8 @@ sound_declared caller id name db (Err fault) d ok e = absurd cc
 sound_index : (caller : Identity) (m : Message) (name : List ℕ) → AreSound (index_written caller m name)
 sound_index caller m name db d e =
     let terms = terms_in caller name db in
-    let k = went (plain m) (λ _. next (body_of m) (λ value. next (there_or Body (index_in value)) (λ asked. index_asked_in caller name db asked))) d e in
-    let l = went (body_of m) (λ value. next (there_or Body (index_in value)) (λ asked. index_asked_in caller name db asked)) d k.then in
+    let k = went (plain m) (λ _. and_then (json_body m) (λ value. and_then (there_or Body (index_in value)) (λ asked. index_asked_in caller name db asked))) d e in
+    let l = went (json_body m) (λ value. and_then (there_or Body (index_in value)) (λ asked. index_asked_in caller name db asked)) d k.then in
     let b = went (there_or Body (index_in l.first)) (λ asked. index_asked_in caller name db asked) d l.then in
     sound_declared caller b.first.design b.first.name db (index_admission terms db b.first.design b.first.name b.first.fields) d
     (index_alone_acceptable terms db b.first.design b.first.name b.first.fields) b.then
@@ -161,9 +161,9 @@ sound_stored caller id db (Err fault) d ok e = absurd cc
 
 sound_local : (caller : Identity) (m : Message) → AreSound (local_written caller m)
 sound_local caller m db d e =
-    let k = went (there_or Id (local_id_in m.path)) (λ id. next (plain m) (λ _. next (body_of m) (λ document. local_set caller id (local_outcome (local_at db id) id document)))) d e in
-    let l = went (plain m) (λ _. next (body_of m) (λ document. local_set caller k.first (local_outcome (local_at db k.first) k.first document))) d k.then in
-    let b = went (body_of m) (λ document. local_set caller k.first (local_outcome (local_at db k.first) k.first document)) d l.then in
+    let k = went (there_or Id (local_id_in m.path)) (λ id. and_then (plain m) (λ _. and_then (json_body m) (λ document. local_set caller id (local_outcome (local_at db id) id document)))) d e in
+    let l = went (plain m) (λ _. and_then (json_body m) (λ document. local_set caller k.first (local_outcome (local_at db k.first) k.first document))) d k.then in
+    let b = went (json_body m) (λ document. local_set caller k.first (local_outcome (local_at db k.first) k.first document)) d l.then in
     sound_stored caller k.first db (local_outcome (local_at db k.first) k.first b.first) d (λ document. local_has_body (local_at db k.first) k.first b.first document) b.then
 
 -- ---- what is asked
@@ -183,22 +183,22 @@ good_work page action m w task sound e =
 
 good_created : (page : Page) (caller : Identity) (m : Message) (asked : Result (Unit {0}) Refusal) (task : Task) → admin_task caller m (λ name. created name asked) ≡ Ok task → IsGood page m task
 good_created page caller m asked task e =
-    let k = went (database_name_of m) (λ name. next (administration caller) (λ _. Ok (created name asked))) task e in
+    let k = went (database_name_of m) (λ name. and_then (administration caller) (λ _. Ok (created name asked))) task e in
     let l = went (administration caller) (λ _. Ok (created k.first asked)) task k.then in
     subst (λ (x : Task). IsGood page m x) (same {A = Task} _ task l.then) (named DatabaseName (database_name_in m.path) k.first k.was)
 
 good_removed : (page : Page) (caller : Identity) (m : Message) (asked : Result (Unit {0}) Refusal) (task : Task) → admin_task caller m (λ name. removed name asked) ≡ Ok task → IsGood page m task
 good_removed page caller m asked task e =
-    let k = went (database_name_of m) (λ name. next (administration caller) (λ _. Ok (removed name asked))) task e in
+    let k = went (database_name_of m) (λ name. and_then (administration caller) (λ _. Ok (removed name asked))) task e in
     let l = went (administration caller) (λ _. Ok (removed k.first asked)) task k.then in
     subst (λ (x : Task). IsGood page m x) (same {A = Task} _ task l.then) (named DatabaseName (database_name_in m.path) k.first k.was)
 
-good_welcome : (m : Message) (task : Task) → next (plain m) (λ _. Ok (told welcome)) ≡ Ok task → IsGood Welcome m task
+good_welcome : (m : Message) (task : Task) → and_then (plain m) (λ _. Ok (told welcome)) ≡ Ok task → IsGood Welcome m task
 good_welcome m task e = let k = went (plain m) (λ _. Ok (told welcome)) task e in subst (λ (x : Task). IsGood Welcome m x) (same {A = Task} _ task k.then) tt
 
-good_list : (caller : Identity) (m : Message) (task : Task) → next (administration caller) (λ _. next (plain m) (λ _. Ok listed)) ≡ Ok task → IsGood AllDatabases m task
+good_list : (caller : Identity) (m : Message) (task : Task) → and_then (administration caller) (λ _. and_then (plain m) (λ _. Ok listed)) ≡ Ok task → IsGood AllDatabases m task
 good_list caller m task e =
-    let k = went (administration caller) (λ _. next (plain m) (λ _. Ok listed)) task e in
+    let k = went (administration caller) (λ _. and_then (plain m) (λ _. Ok listed)) task e in
     let l = went (plain m) (λ _. Ok listed) task k.then in
     subst (λ (x : Task). IsGood AllDatabases m x) (same {A = Task} _ task l.then) refl
 
@@ -231,13 +231,13 @@ abbrev pub IsMade : Contents → Message → Change → Type 0
 IsMade a m kept = ⊤
 IsMade a m (creation name) = (database_name_in m.path ≡ Some name) × (get a name ≡ None)
 IsMade a m (removal name) = database_name_in m.path ≡ Some name
-IsMade a m (inside name effect) = (database_name_in m.path ≡ Some name) × ((db : Database) × (get a name ≡ Some db) × (IsLawful db → Fits effect db))
+IsMade a m (inside name effect) = (database_name_in m.path ≡ Some name) × ((db : Database) × (get a name ≡ Some db) × (IsLawfulDatabase db → Fits effect db))
 
 pub record IsRight (a : Contents) (m : Message) (o : Outcome) : Type 0 where
   pub status : (o.status ≡ 200) ⊎ (o.status ≡ 201)
   pub made : IsMade a m o.change
 
-made_at : (a : Contents) (m : Message) (name : List ℕ) (db : Database) (effect : Effect) → database_name_in m.path ≡ Some name → get a name ≡ Some db → (IsLawful db → Fits effect db)
+made_at : (a : Contents) (m : Message) (name : List ℕ) (db : Database) (effect : Effect) → database_name_in m.path ≡ Some name → get a name ≡ Some db → (IsLawfulDatabase db → Fits effect db)
     → IsMade a m (change_at name effect)
 made_at a m name db nothing own there fits = tt
 made_at a m name db (appended ws) own there fits = (own, (db, there, fits))
@@ -253,27 +253,27 @@ right page caller a m (told value) o ok e = subst (λ (x : Outcome). IsRight a m
 right page caller a m listed o ok e = subst (λ (x : Outcome). IsRight a m x) (same {A = Outcome} _ o e) (record { status = inl refl; made = tt })
 right page caller a m (created name asked) o ok e =
     let made : Outcome = record { status = 201; value = done; change = creation name } in
-    let k = went (true_or Exists (is_none (get a name))) (λ _. next asked (λ _. Ok made)) o e in
+    let k = went (true_or Exists (is_none (get a name))) (λ _. and_then asked (λ _. Ok made)) o e in
     let l = went asked (λ _. Ok made) o k.then in
     subst (λ (x : Outcome). IsRight a m x) (same {A = Outcome} _ o l.then) (record { status = inr refl; made = (ok, absent Exists (get a name) k.was) })
 right page caller a m (removed name asked) o ok e =
     let made : Outcome = record { status = 200; value = done; change = removal name } in
-    let k = went (there_or NoDatabase (get a name)) (λ _. next asked (λ _. Ok made)) o e in
+    let k = went (there_or NoDatabase (get a name)) (λ _. and_then asked (λ _. Ok made)) o e in
     let l = went asked (λ _. Ok made) o k.then in
     subst (λ (x : Outcome). IsRight a m x) (same {A = Outcome} _ o l.then) (record { status = inl refl; made = ok })
 right page caller a m (worked action name work) o ok e =
-    let k = went (entry caller action (get a name)) (λ db. next (work db) (λ d. Ok (outcome_in name d))) o e in
-    let l = went (work k.first) (λ d. Ok (outcome_in name d)) o k.then in
+    let k = went (entry caller action (get a name)) (λ db. and_then (work db) (λ d. Ok (outcome_in_database name d))) o e in
+    let l = went (work k.first) (λ d. Ok (outcome_in_database name d)) o k.then in
     let sound = ok.1 k.first l.first l.was in
     subst (λ (x : Outcome). IsRight a m x) (same {A = Outcome} _ o l.then)
     (record { status = sound.status; made = made_at a m name k.first l.first.effect ok.0 (there caller action (get a name) k.first k.was) sound.fits })
 
 pub judged_right : (c : Configuration) (a : Contents) (m : Message) (o : Outcome) → judgement c a m ≡ Ok o → IsRight a m o
 judged_right c a m o e =
-    let k = went (asker c m) (λ caller. next (there_or Path (page_of m.path)) (λ page. page_outcome page (method_of m.method) caller a m)) o e in
-    let l = went (there_or Path (page_of m.path)) (λ page. page_outcome page (method_of m.method) k.first a m) o k.then in
-    let t = went (task_of l.first (method_of m.method) k.first m) (λ task. task_outcome k.first a task) o l.then in
-    right l.first k.first a m t.first o (good l.first (method_of m.method) k.first m t.first t.was) t.then
+    let k = went (asker c m) (λ caller. and_then (there_or Path (page_of m.path)) (λ page. page_outcome page (method_named m.method) caller a m)) o e in
+    let l = went (there_or Path (page_of m.path)) (λ page. page_outcome page (method_named m.method) k.first a m) o k.then in
+    let t = went (task_of l.first (method_named m.method) k.first m) (λ task. task_outcome k.first a task) o l.then in
+    right l.first k.first a m t.first o (good l.first (method_named m.method) k.first m t.first t.was) t.then
 
 -- ---- what depends on what
 
@@ -283,16 +283,16 @@ alike : (page : Page) (caller : Identity) (a b : Contents) (m : Message) (task :
 alike page caller a b m (told value) ok single agree = refl
 alike page caller a b m listed ok single agree = absurd (single ok)
 alike page caller a b m (created name asked) ok single agree =
-    ap (λ (o : Option Database). next (true_or Exists (is_none o)) (λ _. next asked (λ _. Ok (let x : Outcome = record { status = 201; value = done; change = creation name } in x)))) (agree name ok)
+    ap (λ (o : Option Database). and_then (true_or Exists (is_none o)) (λ _. and_then asked (λ _. Ok (let x : Outcome = record { status = 201; value = done; change = creation name } in x)))) (agree name ok)
 alike page caller a b m (removed name asked) ok single agree =
-    ap (λ (o : Option Database). next (there_or NoDatabase o) (λ _. next asked (λ _. Ok (let x : Outcome = record { status = 200; value = done; change = removal name } in x)))) (agree name ok)
+    ap (λ (o : Option Database). and_then (there_or NoDatabase o) (λ _. and_then asked (λ _. Ok (let x : Outcome = record { status = 200; value = done; change = removal name } in x)))) (agree name ok)
 alike page caller a b m (worked action name work) ok single agree =
-    ap (λ (o : Option Database). next (entry caller action o) (λ db. next (work db) (λ d. Ok (outcome_in name d)))) (agree name ok.0)
+    ap (λ (o : Option Database). and_then (entry caller action o) (λ db. and_then (work db) (λ d. Ok (outcome_in_database name d)))) (agree name ok.0)
 
 pub judged_alike : (c : Configuration) (a b : Contents) (m : Message) → page_of m.path ≢ Some AllDatabases
     → ((name : List ℕ) → database_name_in m.path ≡ Some name → get a name ≡ get b name) → judgement c a m ≡ judgement c b m
 judged_alike c a b m single agree =
     next_same (asker c m) _ _ (λ caller is.
     next_same (there_or Path (page_of m.path)) _ _ (λ page at.
-    next_same (task_of page (method_of m.method) caller m) _ _ (λ task asked.
-    alike page caller a b m task (good page (method_of m.method) caller m task asked) (λ all. single (named Path (page_of m.path) page at ∙ ap Some all)) agree)))
+    next_same (task_of page (method_named m.method) caller m) _ _ (λ task asked.
+    alike page caller a b m task (good page (method_named m.method) caller m task asked) (λ all. single (named Path (page_of m.path) page at ∙ ap Some all)) agree)))

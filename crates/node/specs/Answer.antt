@@ -13,9 +13,9 @@ use Rattle.policy.specs.declared.action.Action.TheVariants.{Administer, Read, Wr
 use Rattle.policy.specs.declared.rule.Rule.{Rule}
 use Rattle.store.specs.Contents.{Contents, new_database}
 use Rattle.store.specs.Database.{Database}
-use Rattle.api.specs.Asking.{asker, denial, method_of, plain}
+use Rattle.api.specs.Asking.{asker, denial, method_named, plain}
 use Rattle.api.specs.Paths.{database_name_in}
-use Rattle.api.specs.Refusals.{refusal_value, status_of, next, there_or, true_or}
+use Rattle.api.specs.Refusals.{refusal_value, status_of, and_then, there_or, true_or}
 use Rattle.api.specs.Routing.{page_of}
 use Rattle.node.specs.Work.{Done, Effect, Work, appended, local_put, nothing, read_work, secured, with_effect}
 use Rattle.node.specs.Works.{change_list, database_read, difference_list, document_deleted, document_finds, document_list, document_read, document_written, documents_written, done, index_written, local_read, local_written, security_read, security_written, view_read}
@@ -68,8 +68,8 @@ change_at name (secured security) = inside name (secured security)
 change_at name (local_put id document) = inside name (local_put id document)
 
 -- what was done in the database of this name
-abbrev pub outcome_in : List ℕ → Done → Outcome
-outcome_in name d = record { status = d.status; value = d.value; change = change_at name d.effect }
+abbrev pub outcome_in_database : List ℕ → Done → Outcome
+outcome_in_database name d = record { status = d.status; value = d.value; change = change_at name d.effect }
 
 -- ---- what a request asks
 
@@ -105,16 +105,16 @@ database_name_of m = there_or DatabaseName (database_name_in m.path)
 
 -- what is asked of the database that the path leads into
 abbrev pub work_task : Action → Message → (List ℕ → Work) → Result Task Refusal
-work_task action m work = next (database_name_of m) (λ name. Ok (worked action name (work name)))
+work_task action m work = and_then (database_name_of m) (λ name. Ok (worked action name (work name)))
 
 -- what is asked of a server admin about that database as a whole
 abbrev pub admin_task : Identity → Message → (List ℕ → Task) → Result Task Refusal
-admin_task caller m task = next (database_name_of m) (λ name. next (administration caller) (λ _. Ok (task name)))
+admin_task caller m task = and_then (database_name_of m) (λ name. and_then (administration caller) (λ _. Ok (task name)))
 
 -- what each page has for a method
 abbrev pub task_of : Page → Option RequestMethod → Identity → Message → Result Task Refusal
-task_of Welcome (Some Get) caller m = next (plain m) (λ _. Ok (told welcome))
-task_of AllDatabases (Some Get) caller m = next (administration caller) (λ _. next (plain m) (λ _. Ok listed))
+task_of Welcome (Some Get) caller m = and_then (plain m) (λ _. Ok (told welcome))
+task_of AllDatabases (Some Get) caller m = and_then (administration caller) (λ _. and_then (plain m) (λ _. Ok listed))
 task_of DatabasePage (Some Get) caller m = work_task Read m (λ name. read_work (database_read m name))
 task_of DatabasePage (Some Put) caller m = admin_task caller m (λ name. created name (plain m))
 task_of DatabasePage (Some Delete) caller m = admin_task caller m (λ name. removed name (plain m))
@@ -139,7 +139,7 @@ task_of page method caller m = Err Method
 -- the database, where there is one and its policy lets the caller do this
 abbrev pub entry : Identity → Action → Option Database → Result Database Refusal
 entry caller action None = Err NoDatabase
-entry caller action (Some db) = next (permission caller (verdict action caller db.security)) (λ _. Ok db)
+entry caller action (Some db) = and_then (permission caller (verdict action caller db.security)) (λ _. Ok db)
 
 -- the names of the databases, in byte order
 abbrev pub names_of : Contents → Value
@@ -150,27 +150,27 @@ abbrev pub task_outcome : Identity → Contents → Task → Result Outcome Refu
 task_outcome caller databases (told value) = Ok (reply value)
 task_outcome caller databases listed = Ok (reply (names_of databases))
 task_outcome caller databases (created name asked) =
-    next (true_or Exists (is_none (get databases name))) (λ _.
-    next asked (λ _. Ok (record { status = 201; value = done; change = creation name })))
+    and_then (true_or Exists (is_none (get databases name))) (λ _.
+    and_then asked (λ _. Ok (record { status = 201; value = done; change = creation name })))
 task_outcome caller databases (removed name asked) =
-    next (there_or NoDatabase (get databases name)) (λ _.
-    next asked (λ _. Ok (record { status = 200; value = done; change = removal name })))
+    and_then (there_or NoDatabase (get databases name)) (λ _.
+    and_then asked (λ _. Ok (record { status = 200; value = done; change = removal name })))
 task_outcome caller databases (worked action name work) =
-    next (entry caller action (get databases name)) (λ db. next (work db) (λ d. Ok (outcome_in name d)))
+    and_then (entry caller action (get databases name)) (λ db. and_then (work db) (λ d. Ok (outcome_in_database name d)))
 
 -- ---- all requests
 
 -- what comes of a request for a page
 abbrev pub page_outcome : Page → Option RequestMethod → Identity → Contents → Message → Result Outcome Refusal
-page_outcome page method caller databases m = next (task_of page method caller m) (λ task. task_outcome caller databases task)
+page_outcome page method caller databases m = and_then (task_of page method caller m) (λ task. task_outcome caller databases task)
 
 -- what a request comes to, or the first refusal, in this order: the caller's token, the path, the method, the database's name, the right to
 -- list, create or remove databases, the database's absence, its policy, the document's id, the query, the body, and what the edit is
 -- refused for
 abbrev pub judgement : Configuration → Contents → Message → Result Outcome Refusal
 judgement c databases m =
-    next (asker c m) (λ caller.
-    next (there_or Path (page_of m.path)) (λ page. page_outcome page (method_of m.method) caller databases m))
+    and_then (asker c m) (λ caller.
+    and_then (there_or Path (page_of m.path)) (λ page. page_outcome page (method_named m.method) caller databases m))
 
 -- a refusal changes nothing
 abbrev pub settlement : Result Outcome Refusal → Outcome

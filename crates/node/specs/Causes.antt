@@ -11,21 +11,17 @@ use Rattle.read.specs.declared.fault.ReadFault.{ReadFault}
 use Rattle.read.specs.declared.fault.ReadFault.TheVariants as read
 use Rattle.write.specs.declared.fault.WriteFault.{WriteFault}
 use Rattle.write.specs.declared.fault.WriteFault.TheVariants as write
-use Rattle.node.specs.Answer.{Change, creation, inside, kept, removal}
-use Rattle.node.specs.Work.{appended, local_put, nothing, secured}
+use Rattle.node.specs.Answer.{Change, creation, inside}
+use Rattle.node.specs.Work.{appended}
 use Rattle.api.specs.declared.refusal.Refusal.TheVariants.{Deleted, Exists, Missing, NoDatabase, Query}
 use Rattle.node.specs.declared.early_end.EarlyEnd.{EarlyEnd}
 use Rattle.node.specs.declared.early_end.EarlyEnd.TheVariants.{Refused, Failed, NoRoom}
 
 -- the store has no number left for this change: for a new database, or for writes that are appended
 abbrev pub LacksNumbers : {S : Type 0} → Ghosts S → S → Change → Type 0
-LacksNumbers g s kept = ⊥
 LacksNumbers g s (creation name) = g.lacks_number s
-LacksNumbers g s (removal name) = ⊥
-LacksNumbers g s (inside name nothing) = ⊥
 LacksNumbers g s (inside name (appended ws)) = g.lacks_room s name ws
-LacksNumbers g s (inside name (secured security)) = ⊥
-LacksNumbers g s (inside name (local_put id document)) = ⊥
+LacksNumbers g s change = ⊥
 
 -- a fault was counted, or numbers lacked for this change
 abbrev pub HasCause : {S : Type 0} → Ghosts S → S → S → Change → Type 0

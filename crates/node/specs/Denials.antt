@@ -18,7 +18,7 @@ use Rattle.tree.specs.Revision.{Revision}
 use Rattle.write.specs.Denials.{EditIsDueTo, IsDesignDenial}
 use Rattle.write.specs.Terms.{terms_in}
 use Rattle.find.specs.Indexes.{IndexAsked, index_in}
-use Rattle.api.specs.Asking.{asker, body_of, denial, method_of, pair_of, plain}
+use Rattle.api.specs.Asking.{asker, json_body, denial, method_named, pair_of, plain}
 use Rattle.api.specs.Paths.{database_name_in, document_id_in}
 use Rattle.api.specs.Queries.{revision_query}
 use Rattle.api.specs.Routing.{page_of}
@@ -27,28 +27,14 @@ use Rattle.api.specs.declared.method.RequestMethod.TheVariants.{Get, Put, Post, 
 use Rattle.api.specs.declared.page.Page.{Page}
 use Rattle.api.specs.declared.page.Page.TheVariants.{AllDatabases, Database as DatabasePage, Security, BulkDocuments, AllDocuments, Changes, Differences, Find, Index, View, Document, LocalDocument}
 use Rattle.api.specs.declared.refusal.Refusal.{Refusal}
-use Rattle.api.specs.declared.refusal.Refusal.TheVariants.{Unauthorized, Forbidden, Path, Method, DatabaseName, NoDatabase, Exists, Id, Query, Syntax, Body, BadDocument, BadHistory, Conflict, Generation, Missing, Deleted}
+use Rattle.api.specs.declared.refusal.Refusal.TheVariants.{Unauthorized, Forbidden}
 use Rattle.node.specs.Works.{deletion}
 
 -- the rule by which a refusal denies; other refusals name none
 abbrev pub rule_denied_by : Refusal → Option Rule
 rule_denied_by (Unauthorized rule) = Some rule
 rule_denied_by (Forbidden rule) = Some rule
-rule_denied_by Path = None
-rule_denied_by Method = None
-rule_denied_by DatabaseName = None
-rule_denied_by NoDatabase = None
-rule_denied_by Exists = None
-rule_denied_by Id = None
-rule_denied_by Query = None
-rule_denied_by Syntax = None
-rule_denied_by Body = None
-rule_denied_by BadDocument = None
-rule_denied_by BadHistory = None
-rule_denied_by Conflict = None
-rule_denied_by Generation = None
-rule_denied_by Missing = None
-rule_denied_by Deleted = None
+rule_denied_by refusal = None
 
 -- ---- by the conditions of an action
 
@@ -84,7 +70,7 @@ IsReached page action m = ⊤
 pub record MayDeny (m : Message) (action : Action) : Type 0 where
   pub page : Page
   pub leads : page_of m.path ≡ Some page
-  pub asked : IsAskedAt page (method_of m.method) action
+  pub asked : IsAskedAt page (method_named m.method) action
   pub reached : IsReached page action m
 
 -- the security object of the database that the path leads into
@@ -96,19 +82,19 @@ pub record IsOwn (databases : Contents) (m : Message) (security : Value) : Type 
   pub is : security ≡ db.security
 
 -- the security object that the action is asked of: its own in a database, and the closed one where no database is entered
-abbrev pub IsOf : Action → Contents → Message → Value → Type 0
-IsOf Administer databases m security = security ≡ closed_security
-IsOf Read databases m security = IsOwn databases m security
-IsOf WriteSecurity databases m security = IsOwn databases m security
-IsOf WriteDesign databases m security = IsOwn databases m security
-IsOf WriteDocument databases m security = IsOwn databases m security
+abbrev pub IsSecurityOf : Action → Contents → Message → Value → Type 0
+IsSecurityOf Administer databases m security = security ≡ closed_security
+IsSecurityOf Read databases m security = IsOwn databases m security
+IsSecurityOf WriteSecurity databases m security = IsOwn databases m security
+IsSecurityOf WriteDesign databases m security = IsOwn databases m security
+IsSecurityOf WriteDocument databases m security = IsOwn databases m security
 
 -- the rule is that of the first condition that this caller doesn't meet, for an action that the request asks for
 pub record IsByPolicy (databases : Contents) (m : Message) (caller : Identity) (rule : Rule) : Type 0 where
   pub action : Action
   pub security : Value
   pub asked : MayDeny m action
-  pub of : IsOf action databases m security
+  pub of : IsSecurityOf action databases m security
   pub first : verdict action caller security ≡ Some rule
 
 -- ---- by an edit
@@ -116,7 +102,7 @@ pub record IsByPolicy (databases : Contents) (m : Message) (caller : Identity) (
 -- what a request writes at the page of a document, of which the query names this revision: a PUT its body, and a DELETE that names a
 -- revision the deletion
 abbrev pub WritesBy : Option RequestMethod → Message → Option Revision → Value → Type 0
-WritesBy (Some Put) m query document = body_of m ≡ Ok document
+WritesBy (Some Put) m query document = json_body m ≡ Ok document
 WritesBy (Some Delete) m query document = IsSome query × (document ≡ deletion)
 WritesBy method m query document = ⊥
 
@@ -133,7 +119,7 @@ pub record IsByEdit (databases : Contents) (m : Message) (caller : Identity) (ru
   pub member : verdict WriteDocument caller db.security ≡ None
   pub leads : document_id_in m.path ≡ Some id
   pub named : revision_query m.query ≡ Some query
-  pub writes : WritesBy (method_of m.method) m query document
+  pub writes : WritesBy (method_named m.method) m query document
   pub due : EditIsDueTo (terms_in caller name db) id (history_at db id) query document rule
 
 -- the rule is the first that refuses to let the caller, who may write documents, write the design document that the path leads to: of a
@@ -143,7 +129,7 @@ pub record IsByDeletion (databases : Contents) (m : Message) (caller : Identity)
   pub db : Database
   pub id : List ℕ
   pub page : page_of m.path ≡ Some Document
-  pub method : method_of m.method ≡ Some Delete
+  pub method : method_named m.method ≡ Some Delete
   pub own : database_name_in m.path ≡ Some name
   pub there : get databases name ≡ Some db
   pub member : verdict WriteDocument caller db.security ≡ None
@@ -161,12 +147,12 @@ pub record IsByIndex (databases : Contents) (m : Message) (caller : Identity) (r
   pub value : Value
   pub index : IndexAsked
   pub page : page_of m.path ≡ Some Index
-  pub method : method_of m.method ≡ Some Post
+  pub method : method_named m.method ≡ Some Post
   pub own : database_name_in m.path ≡ Some name
   pub there : get databases name ≡ Some db
   pub member : verdict WriteDocument caller db.security ≡ None
   pub query : plain m ≡ Ok tt
-  pub body : body_of m ≡ Ok value
+  pub body : json_body m ≡ Ok value
   pub asks : index_in value ≡ Some index
   pub due : IsDesignDenial (terms_in caller name db) index.design rule
 

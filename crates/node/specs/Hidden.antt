@@ -7,7 +7,7 @@ use Rattle.couch_http.specs.Message.{Message}
 use Rattle.policy.specs.Security.{is_member}
 use Rattle.store.specs.Contents.{Contents}
 use Rattle.store.specs.Database.{Database}
-use Rattle.api.specs.Asking.{asker, method_of}
+use Rattle.api.specs.Asking.{asker, method_named}
 use Rattle.api.specs.Paths.{database_name_in}
 use Rattle.api.specs.Routing.{page_of}
 use Rattle.api.specs.declared.method.RequestMethod.{RequestMethod}
@@ -17,15 +17,15 @@ use Rattle.api.specs.declared.page.Page.TheVariants.{Database as DatabasePage, S
 use Rattle.api.specs.declared.refusal.Refusal.{Refusal}
 
 -- some callers, who may tell each other all that they are told
-abbrev pub Group : Type 0
-Group = Identity → Bool
+abbrev pub CallerGroup : Type 0
+CallerGroup = Identity → Bool
 
 -- the names of some databases, also of such as are not there
 abbrev pub Names : Type 0
 Names = List ℕ → Bool
 
 -- none of the group is a member of any of these databases, where they are there
-abbrev pub AreHidden : Group → Names → Contents → Type 0
+abbrev pub AreHidden : CallerGroup → Names → Contents → Type 0
 AreHidden group names databases =
     (caller : Identity) (name : List ℕ) (db : Database) → group caller ≡ true → names name ≡ true → get databases name ≡ Some db
     → is_member db.security caller ≡ false
@@ -33,12 +33,12 @@ AreHidden group names databases =
 -- ---- requests of others on them
 
 -- the caller is known and not of the group
-abbrev pub is_outside : Group → Result Identity Refusal → Bool
+abbrev pub is_outside : CallerGroup → Result Identity Refusal → Bool
 is_outside group (Ok caller) = not (group caller)
 is_outside group (Err refusal) = false
 
 -- the request is of a caller who isn't in the group; one whose headers are refused is of nobody
-abbrev pub is_of_others : Configuration → Group → Message → Bool
+abbrev pub is_of_others : Configuration → CallerGroup → Message → Bool
 is_of_others c group m = is_outside group (asker c m)
 
 -- the name of a database is there, and one of these
@@ -60,10 +60,10 @@ is_spared_at page method = false
 -- The request asks to create a database, to remove one, or to write its security object: what comes of it can be told by everybody, from
 -- whether the database is there and who is let in.
 abbrev pub is_spared : Message → Bool
-is_spared m = is_spared_at (page_of m.path) (method_of m.method)
+is_spared m = is_spared_at (page_of m.path) (method_named m.method)
 
 -- a request of others on one of these databases, which can't be told
-abbrev pub is_struck : Configuration → Group → Names → Message → Bool
+abbrev pub is_struck : Configuration → CallerGroup → Names → Message → Bool
 is_struck c group names m = is_of_others c group m && (is_into names m && not (is_spared m))
 
 -- ---- states that can't be told apart

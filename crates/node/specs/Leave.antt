@@ -10,14 +10,15 @@ use Rattle.policy.specs.Verdict.{verdict}
 use Rattle.policy.specs.declared.action.Action.TheVariants.{WriteDocument}
 use Rattle.store.specs.Contents.{Contents}
 use Rattle.store.specs.Database.{Database, DocumentWrite, history_at}
+use Rattle.tree.specs.History.{ancestors_of_parent}
 use Rattle.tree.specs.Revision.{Revision}
-use Rattle.write.specs.Admission.{edit_path, revision_after, write_at}
+use Rattle.write.specs.Admission.{revision_after, write_at}
 use Rattle.write.specs.Bulk.{DocumentOutcome, Histories, after, all_told, outcomes, put_before, writes_in}
 use Rattle.write.specs.Denials.{EditHasLeave}
 use Rattle.write.specs.Document.{id_in}
 use Rattle.write.specs.Settling.{after_all}
 use Rattle.write.specs.Terms.{Terms, terms_in}
-use Rattle.api.specs.Asking.{asker, body_of, method_of, plain}
+use Rattle.api.specs.Asking.{asker, json_body, method_named, plain}
 use Rattle.api.specs.Bulk.{bulk_in}
 use Rattle.api.specs.Paths.{database_name_in, document_id_in}
 use Rattle.api.specs.Queries.{revision_query}
@@ -39,7 +40,7 @@ pub record MayWrite (c : Configuration) (databases : Contents) (m : Message) (pa
   pub db : Database
   pub known : asker c m ≡ Ok caller
   pub leads : page_of m.path ≡ Some page
-  pub by : method_of m.method ≡ Some method
+  pub by : method_named m.method ≡ Some method
   pub own : database_name_in m.path ≡ Some name
   pub there : get databases name ≡ Some db
   pub member : verdict WriteDocument caller db.security ≡ None
@@ -65,7 +66,7 @@ pub record EditMayBeMade (c : Configuration) (databases : Contents) (m : Message
 
 -- its write, which makes that revision
 abbrev pub edit_made : {c : Configuration} {databases : Contents} {m : Message} {method : RequestMethod} → EditMayBeMade c databases m method → DocumentWrite
-edit_made edit = write_at edit.id (edit_path (history_at edit.place.db edit.id) edit.leave.parent edit.rev) edit.leave.sent
+edit_made edit = write_at edit.id (edit.rev ∷ ancestors_of_parent (history_at edit.place.db edit.id) edit.leave.parent) edit.leave.sent
 
 -- the answer that it is accepted, of this status: that write is appended, and the reply has the id and the revision
 abbrev pub edit_answer : {c : Configuration} {databases : Contents} {m : Message} {method : RequestMethod} → ℕ → EditMayBeMade c databases m method → Outcome
@@ -83,7 +84,7 @@ pub record IsAmong (c : Configuration) (databases : Contents) (m : Message) (new
   pub back : List Value
   pub id : List ℕ
   pub query : plain m ≡ Ok tt
-  pub body : body_of m ≡ Ok value
+  pub body : json_body m ≡ Ok value
   pub asks : bulk_in value ≡ Some (record { new_edits = new_edits; documents = front ++ document ∷ back })
   pub named : id_in document ≡ Some id
 

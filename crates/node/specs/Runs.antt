@@ -33,10 +33,10 @@ abbrev pub Steps : Configuration → Contents → Message → Reply → Contents
 Steps c before m reply after = IsStep c before m (λ _. ⊤) reply after
 
 -- the request was served: the reply stands neither for a fault of the store nor for want of memory
-abbrev pub IsServed : Reply → Type 0
-IsServed reply = (reply.status ≢ 500) × (reply.status ≢ 503)
+abbrev pub IsServedReply : Reply → Type 0
+IsServedReply reply = (reply.status ≢ 500) × (reply.status ≢ 503)
 
 -- each reply is no fixed one
 abbrev pub AreServed : {S : Type 0} → List (Stepped S) → Type 0
 AreServed [] = ⊤
-AreServed (s ∷ ss) = IsServed s.reply × AreServed ss
+AreServed (s ∷ ss) = IsServedReply s.reply × AreServed ss

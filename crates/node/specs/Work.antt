@@ -5,7 +5,7 @@ use Rattle.couch_json.specs.Value.{Value}
 use Rattle.store.specs.Contents.{with_local, with_security}
 use Rattle.store.specs.Database.{Database, DocumentWrite, with_all}
 use Rattle.store.specs.declared.local_document.LocalDocument.{LocalDocument}
-use Rattle.api.specs.Refusals.{next}
+use Rattle.api.specs.Refusals.{and_then}
 use Rattle.api.specs.declared.refusal.Refusal.{Refusal}
 
 -- what is done to a database
@@ -41,4 +41,4 @@ value_done value = record { status = 200; value = value; effect = nothing }
 
 -- work that only reads
 abbrev pub read_work : (Database → Result Value Refusal) → Work
-read_work read = λ db. next (read db) (λ value. Ok (value_done value))
+read_work read = λ db. and_then (read db) (λ value. Ok (value_done value))

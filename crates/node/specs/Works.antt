@@ -29,16 +29,16 @@ use Rattle.write.specs.LocalWrites.{local_outcome}
 use Rattle.write.specs.Planning.{security_outcome}
 use Rattle.write.specs.Terms.{Terms, terms_in}
 use Rattle.write.specs.declared.fault.WriteFault.{WriteFault}
-use Rattle.api.specs.Asking.{body_of, plain}
+use Rattle.api.specs.Asking.{json_body, plain}
 use Rattle.api.specs.Bulk.{Bulk, bulk_in}
 use Rattle.node.specs.Bulk.{bulk_reply, edit_members, known_members}
-use Rattle.api.specs.Listings.{changes_query, differences_in, listing_query}
-use Rattle.api.specs.Paths.{document_id_in, index_name_in, local_id_in}
-use Rattle.api.specs.Queries.{Asked, winner, revision, leaves, revisions, document_query, revision_query}
+use Rattle.api.specs.Listings.{changes_query, requested_differences, listing_query}
+use Rattle.api.specs.Paths.{document_id_in, index_name_in_path, local_id_in}
+use Rattle.api.specs.Queries.{RequestedRevisions, winner, revision, leaves, revisions, document_query, revision_query}
 use Rattle.api.specs.Views.{view_query}
 use Rattle.node.specs.Edits.{refusal_of_edit}
 use Rattle.node.specs.Work.{Done, Work, appended, local_put, secured}
-use Rattle.api.specs.Refusals.{next, there_or}
+use Rattle.api.specs.Refusals.{and_then, there_or}
 use Rattle.api.specs.declared.refusal.Refusal.{Refusal}
 use Rattle.api.specs.declared.refusal.Refusal.TheVariants.{Id, Query, Body, Missing, Deleted}
 
@@ -46,11 +46,11 @@ use Rattle.api.specs.declared.refusal.Refusal.TheVariants.{Id, Query, Body, Miss
 
 -- what the database of this name says of itself
 abbrev pub database_read : Message → List ℕ → Database → Result Value Refusal
-database_read m name db = next (plain m) (λ _. Ok (information name db))
+database_read m name db = and_then (plain m) (λ _. Ok (information name db))
 
 -- its security object
 abbrev pub security_read : Message → Database → Result Value Refusal
-security_read m db = next (plain m) (λ _. Ok db.security)
+security_read m db = and_then (plain m) (λ _. Ok db.security)
 
 -- what a change replies that has nothing more to say
 abbrev pub done : Value
@@ -63,43 +63,43 @@ security_set (Err fault) = Err Body
 
 -- what a PUT of the security object does
 abbrev pub security_written : Message → Work
-security_written m db = next (plain m) (λ _. next (body_of m) (λ value. security_set (security_outcome value)))
+security_written m db = and_then (plain m) (λ _. and_then (json_body m) (λ value. security_set (security_outcome value)))
 
 -- ---- reading a document
 
 -- what reading a document gives, by which revisions are asked for, and whether with the revisions before each
-abbrev pub read_by : List ℕ → Bool → Asked → Database → Result Value ReadFault
+abbrev pub read_by : List ℕ → Bool → RequestedRevisions → Database → Result Value ReadFault
 read_by id revs winner db = document_at db id None revs
 read_by id revs (revision r) db = document_at db id (Some r) revs
 read_by id revs leaves db = Ok (open_revisions id (history_at db id) None revs)
 read_by id revs (revisions rs) db = Ok (open_revisions id (history_at db id) (Some rs) revs)
 
 -- a reader is told of a document that it is deleted, or missing, and nothing else
-abbrev pub found : Result Value ReadFault → Result Value Refusal
-found (Ok document) = Ok document
-found (Err read.Deleted) = Err Deleted
-found (Err fault) = Err Missing
+abbrev pub refusal_of_read : Result Value ReadFault → Result Value Refusal
+refusal_of_read (Ok document) = Ok document
+refusal_of_read (Err read.Deleted) = Err Deleted
+refusal_of_read (Err fault) = Err Missing
 
 -- what a GET of a document shows
 abbrev pub document_read : Message → Database → Result Value Refusal
 document_read m db =
-    next (there_or Id (document_id_in m.path)) (λ id.
-    next (there_or Query (document_query m.query)) (λ query. found (read_by id query.revs query.asked db)))
+    and_then (there_or Id (document_id_in m.path)) (λ id.
+    and_then (there_or Query (document_query m.query)) (λ query. refusal_of_read (read_by id query.revs query.asked db)))
 
 -- ---- lists
 
 -- the documents by id, in the range that the query asks for
 abbrev pub document_list : Message → Database → Result Value Refusal
-document_list m db = next (there_or Query (listing_query m.query)) (λ range. Ok (document_listing range db))
+document_list m db = and_then (there_or Query (listing_query m.query)) (λ range. Ok (document_listing range db))
 
 -- the documents that changed, by sequence
 abbrev pub change_list : Message → Database → Result Value Refusal
-change_list m db = next (there_or Query (changes_query m.query)) (λ range. Ok (changes_in range db))
+change_list m db = and_then (there_or Query (changes_query m.query)) (λ range. Ok (changes_in range db))
 
 -- of the revisions that the body asks about, those that are not known
 abbrev pub difference_list : Message → Database → Result Value Refusal
 difference_list m db =
-    next (plain m) (λ _. next (body_of m) (λ value. next (there_or Body (differences_in value)) (λ asked. Ok (revision_differences asked db))))
+    and_then (plain m) (λ _. and_then (json_body m) (λ value. and_then (there_or Body (requested_differences value)) (λ asked. Ok (revision_differences asked db))))
 
 -- ---- finds and views
 
@@ -110,15 +110,15 @@ documents_reply documents = object (put (codes "docs") (array (items_of document
 -- the documents that the body asks for
 abbrev pub document_finds : Message → Database → Result Value Refusal
 document_finds m db =
-    next (plain m) (λ _.
-    next (body_of m) (λ value. next (there_or Body (query_in value)) (λ query. Ok (documents_reply (found_documents query db)))))
+    and_then (plain m) (λ _.
+    and_then (json_body m) (λ value. and_then (there_or Body (query_in value)) (λ query. Ok (documents_reply (found_documents query db)))))
 
 -- the rows of the index that the path leads to, in the range that the query asks for
 abbrev pub view_read : Message → Database → Result Value Refusal
 view_read m db =
-    next (there_or Id (document_id_in m.path)) (λ design.
-    next (there_or Id (index_name_in m.path)) (λ index.
-    next (there_or Query (view_query m.query)) (λ range. found (view_listing range design index db))))
+    and_then (there_or Id (document_id_in m.path)) (λ design.
+    and_then (there_or Id (index_name_in_path m.path)) (λ index.
+    and_then (there_or Query (view_query m.query)) (λ range. refusal_of_read (view_listing range design index db))))
 
 -- ---- indexes
 
@@ -145,15 +145,15 @@ index_asked_in caller name db asked =
 -- the index that the body asks to declare
 abbrev pub index_written : Identity → Message → List ℕ → Work
 index_written caller m name db =
-    next (plain m) (λ _.
-    next (body_of m) (λ value. next (there_or Body (index_in value)) (λ asked. index_asked_in caller name db asked)))
+    and_then (plain m) (λ _.
+    and_then (json_body m) (λ value. and_then (there_or Body (index_in value)) (λ asked. index_asked_in caller name db asked)))
 
 -- ---- local documents
 
 -- what a GET of a local document shows
 abbrev pub local_read : Message → Database → Result Value Refusal
 local_read m db =
-    next (there_or Id (local_id_in m.path)) (λ id. next (plain m) (λ _. found (local_document id db)))
+    and_then (there_or Id (local_id_in m.path)) (λ id. and_then (plain m) (λ _. refusal_of_read (local_document id db)))
 
 -- of a local document that was written: its id and its new revision
 abbrev pub local_members : List ℕ → LocalDocument → Members
@@ -167,8 +167,8 @@ local_set caller id (Err fault) = Err (refusal_of_edit caller fault)
 -- what a PUT of a local document does
 abbrev pub local_written : Identity → Message → Work
 local_written caller m db =
-    next (there_or Id (local_id_in m.path)) (λ id.
-    next (plain m) (λ _. next (body_of m) (λ document. local_set caller id (local_outcome (local_at db id) id document))))
+    and_then (there_or Id (local_id_in m.path)) (λ id.
+    and_then (plain m) (λ _. and_then (json_body m) (λ document. local_set caller id (local_outcome (local_at db id) id document))))
 
 -- ---- writing a document
 
@@ -180,7 +180,7 @@ edit_done caller status id (Err fault) = Err (refusal_of_edit caller fault)
 
 -- the id of the document that is edited, and the revision that the query names, if any
 abbrev pub edit_asked : Message → Result (List ℕ × Option Revision) Refusal
-edit_asked m = next (there_or Id (document_id_in m.path)) (λ id. next (there_or Query (revision_query m.query)) (λ rev. Ok (id, rev)))
+edit_asked m = and_then (there_or Id (document_id_in m.path)) (λ id. and_then (there_or Query (revision_query m.query)) (λ rev. Ok (id, rev)))
 
 -- what the edit of a document comes to in the database of this name, on the terms for this caller
 abbrev pub edit_in : Identity → ℕ → List ℕ → Database → List ℕ → Option Revision → Value → Result Done Refusal
@@ -189,7 +189,7 @@ edit_in caller status name db id rev document = edit_done caller status id (admi
 -- what a PUT of a document does
 abbrev pub document_written : Identity → Message → List ℕ → Work
 document_written caller m name db =
-    next (edit_asked m) (λ asked. next (body_of m) (λ document. edit_in caller 201 name db asked.0 asked.1 document))
+    and_then (edit_asked m) (λ asked. and_then (json_body m) (λ document. edit_in caller 201 name db asked.0 asked.1 document))
 
 -- the document that an edit which deletes has
 abbrev pub deletion : Value
@@ -203,7 +203,7 @@ deletion_outcome terms db id (Some rev) = admission terms db id (Some rev) delet
 -- what a DELETE of a document does
 abbrev pub document_deleted : Identity → Message → List ℕ → Work
 document_deleted caller m name db =
-    next (edit_asked m) (λ asked. edit_done caller 200 asked.0 (deletion_outcome (terms_in caller name db) db asked.0 asked.1))
+    and_then (edit_asked m) (λ asked. edit_done caller 200 asked.0 (deletion_outcome (terms_in caller name db) db asked.0 asked.1))
 
 -- ---- writing several documents
 
@@ -219,4 +219,4 @@ bulk_written caller bulk name db = Ok (bulk_done caller bulk (outcomes (terms_in
 -- what a POST of `_bulk_docs` does
 abbrev pub documents_written : Identity → Message → List ℕ → Work
 documents_written caller m name db =
-    next (plain m) (λ _. next (body_of m) (λ value. next (there_or Body (bulk_in value)) (λ bulk. bulk_written caller bulk name db)))
+    and_then (plain m) (λ _. and_then (json_body m) (λ value. and_then (there_or Body (bulk_in value)) (λ bulk. bulk_written caller bulk name db)))

@@ -8,9 +8,9 @@ ghost use Rattle.couch_json.specs.View.{items_of, view};
 ghost use Rattle.store.specs.Calls.{OnlyReads};
 ghost use Rattle.node.specs.Answer.{administration, database_name_of};
 ghost use Rattle.node.specs.Causes.{Ends};
-ghost use Rattle.node.specs.inner.Coming.{Reads, Serves};
+ghost use Rattle.node.specs.inner.Coming.{IsDatabaseRead, Serves};
 ghost use Rattle.api.specs.RequestReading.{Says};
-ghost use Rattle.api.specs.Refusals.{next};
+ghost use Rattle.api.specs.Refusals.{and_then};
 ghost use Rattle.node.specs.Works.{database_read, done};
 
 use crate::draft::{Change, Draft};
@@ -31,7 +31,7 @@ pub(crate) fn read_database<S: Store>(
     name: &DbName,
     request: &Request,
 ) -> Result<JsonText, EarlyEnd>
-    ensures reads { Reads S.Store store.old store.new name.now (database_read (message_of request.now) name.now) result }
+    ensures reads { IsDatabaseRead S.Store store.old store.new name.now (database_read (message_of request.now) name.now) result }
 {
     without_parameters(request)?;
     Ok(info(alloc, store, name)?)
@@ -103,7 +103,7 @@ pub(crate) fn remove_database<S: Store>(
 
 /// Returns the name of a database that the caller may create or remove.
 fn name_to_govern(alloc: Global, caller: &Caller, request: &Request) -> Result<DbName, RequestFault>
-    ensures { Says (λ name. name) result (next (database_name_of (message_of request.now)) (λ name. next (administration caller.now) (λ _. Ok name))) }
+    ensures { Says (λ name. name) result (and_then (database_name_of (message_of request.now)) (λ name. and_then (administration caller.now) (λ _. Ok name))) }
 {
     let name = database_name(alloc, &request.path)?;
     require_server_admin(alloc, caller)?;

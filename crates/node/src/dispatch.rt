@@ -8,11 +8,11 @@ ghost use Rattle.couch_json.specs.Canonical.{canonical};
 ghost use Rattle.couch_json.specs.Lawful.{IsLawful};
 ghost use Rattle.store.specs.Calls.{ChangesWhole, GoesOn};
 ghost use Rattle.node.specs.Answer.{answer, judgement, task_outcome, with_change};
-ghost use Rattle.api.specs.Asking.{method_of};
+ghost use Rattle.api.specs.Asking.{method_named};
 ghost use Rattle.node.specs.inner.Drafts.{MayChange, MayChangeBy, change_by, change_of, outcome_of, task_asked};
-ghost use Rattle.api.specs.Refusals.{next, refusal_value, status_of};
+ghost use Rattle.api.specs.Refusals.{and_then, refusal_value, status_of};
 ghost use Rattle.node.specs.Causes.{EndsBefore, HasCause, stop_of_change};
-ghost use Rattle.node.specs.inner.Coming.{Judges, Serves};
+ghost use Rattle.node.specs.inner.Coming.{IsJudgedRequest, Serves};
 ghost use Rattle.node.specs.Step.{IsDone, IsStep};
 
 use crate::databases::{create_database, list_databases, remove_database};
@@ -57,7 +57,7 @@ fn judge<S: Store>(
     routes: &Routes,
     request: &Request,
 ) -> Result<Draft, EarlyEnd>
-    ensures judges { Judges S.Store store.old store.new (judgement auth.now (S.contents store.old) (message_of request.now)) result }
+    ensures judges { IsJudgedRequest S.Store store.old store.new (judgement auth.now (S.contents store.old) (message_of request.now)) result }
 {
     let caller = caller(alloc, auth, request)?;
     let Some(page) = routes.page(&request.path) else {
@@ -74,7 +74,7 @@ fn serve<S: Store>(
     caller: &Caller,
     request: &Request,
 ) -> Result<Draft, EarlyEnd>
-    ensures serves { Serves S.Store store.old store.new page (method_of request.now.method) caller.now (message_of request.now) result }
+    ensures serves { Serves S.Store store.old store.new page (method_named request.now.method) caller.now (message_of request.now) result }
 {
     match task_of(page, method_of(request.method.as_str())) {
         Some(task) => do_task(alloc, store, task, caller, request),
@@ -90,8 +90,8 @@ fn do_task<S: Store>(
     caller: &Caller,
     request: &Request,
 ) -> Result<Draft, EarlyEnd>
-    ensures judges { Judges S.Store store.old store.new
-        (next (task_asked task caller.now (message_of request.now)) (task_outcome caller.now (S.contents store.old))) result }
+    ensures judges { IsJudgedRequest S.Store store.old store.new
+        (and_then (task_asked task caller.now (message_of request.now)) (task_outcome caller.now (S.contents store.old))) result }
 {
     match task {
         Task::Welcome => {

@@ -14,10 +14,10 @@ ghost use Rattle.node.specs.Bulk.{made_members};
 ghost use Rattle.couch_json.specs.Value.{object};
 ghost use Rattle.node.specs.inner.Drafts.{done_of};
 ghost use Rattle.node.specs.Causes.{Ends};
-ghost use Rattle.node.specs.inner.Coming.{Comes, OfThere, Reads, WorksIn};
+ghost use Rattle.node.specs.inner.Coming.{MatchesDefinition, ForExisting, IsDatabaseRead, WorksIn};
 ghost use Rattle.api.specs.RequestReading.{Says};
 ghost use Rattle.api.specs.Queried.{choice_of, query_of};
-ghost use Rattle.node.specs.Works.{deletion, document_deleted, document_read, document_written, edit_asked, edit_done, edit_in, found, read_by};
+ghost use Rattle.node.specs.Works.{deletion, document_deleted, document_read, document_written, edit_asked, edit_done, edit_in, refusal_of_read, read_by};
 
 use crate::bulk_reply::{made_members, refusal_of_edit};
 use crate::draft::WriteDraft;
@@ -41,7 +41,7 @@ pub(crate) fn show_document<S: Store>(
     name: &DbName,
     request: &Request,
 ) -> Result<JsonText, EarlyEnd>
-    ensures reads { Reads S.Store store.old store.new name.now (document_read (message_of request.now)) result }
+    ensures reads { IsDatabaseRead S.Store store.old store.new name.now (document_read (message_of request.now)) result }
 {
     let id = document_id(alloc, &request.path)?;
     let query = document_query(alloc, request)?;
@@ -56,7 +56,8 @@ fn find<S: Store>(
     id: &DocId,
     query: &DocumentQuery,
 ) -> Result<JsonText, EarlyEnd>
-    ensures reads { Reads S.Store store.old store.new name.now (λ db. found (read_by id.now (query_of query.now).revs (query_of query.now).asked db)) result }
+    ensures reads { IsDatabaseRead S.Store store.old store.new name.now
+        (λ db. refusal_of_read (read_by id.now (query_of query.now).revs (query_of query.now).asked db)) result }
 {
     Ok(read_by(alloc, store, name, id, query)?)
 }
@@ -134,7 +135,7 @@ fn edit_asked(alloc: Global, request: &Request) -> Result<(DocId, Option<Rev>), 
 
 /// Tells what a deletion that names no revision comes to.
 fn refuse_deletion<S: Store>(store: &mut S, caller: &Caller, name: &DbName, id: &DocId) -> EarlyEnd
-    ensures comes { S.is_honest store.new → OfThere (S.contents store.old) name.now (λ db. Comes (done_of db) (Err result)
+    ensures comes { S.is_honest store.new → ForExisting (S.contents store.old) name.now (λ db. MatchesDefinition (done_of db) (Err result)
         (edit_done caller.now 200 id.now (unnamed_deletion (terms_in caller.now name.now db) id.now))) }
     ensures ends { Ends S.Store store.old store.new result }
     ensures reads { OnlyReads S.Store store.old store.new }

@@ -5,7 +5,7 @@ ghost use Rattle.couch_http.specs.Message.{message_of};
 ghost use Rattle.couch_json.specs.View.{view};
 ghost use Rattle.find.specs.Queries.{query_in};
 ghost use Rattle.api.specs.Refusals.{there_or};
-ghost use Rattle.node.specs.inner.Coming.{Comes, Reads};
+ghost use Rattle.node.specs.inner.Coming.{MatchesDefinition, IsDatabaseRead};
 ghost use Rattle.node.specs.Works.{document_finds, documents_reply, view_read};
 
 use crate::early_end::EarlyEnd;
@@ -23,7 +23,7 @@ pub(crate) fn find_documents<S: Store>(
     name: &DbName,
     request: &Request,
 ) -> Result<JsonText, EarlyEnd>
-    ensures reads { Reads S.Store store.old store.new name.now (document_finds (message_of request.now)) result }
+    ensures reads { IsDatabaseRead S.Store store.old store.new name.now (document_finds (message_of request.now)) result }
 {
     without_parameters(request)?;
     let value = body(alloc, request)?;
@@ -34,7 +34,7 @@ pub(crate) fn find_documents<S: Store>(
 
 /// Reads what is looked for.
 fn read_query(alloc: Global, value: &Json) -> Result<Query, EarlyEnd>
-    ensures comes { Comes (λ query. query) result (there_or Refusal.Body (query_in (view value.now))) }
+    ensures comes { MatchesDefinition (λ query. query) result (there_or Refusal.Body (query_in (view value.now))) }
     ensures ends { IfErr result (λ stop. stop ≢ EarlyEnd.Failed) }
 {
     match Query::read(alloc, value) {
@@ -64,7 +64,7 @@ pub(crate) fn list_view<S: Store>(
     name: &DbName,
     request: &Request,
 ) -> Result<JsonText, EarlyEnd>
-    ensures reads { Reads S.Store store.old store.new name.now (view_read (message_of request.now)) result }
+    ensures reads { IsDatabaseRead S.Store store.old store.new name.now (view_read (message_of request.now)) result }
 {
     let design = document_id(alloc, &request.path)?;
     let index = index_name(alloc, &request.path)?;

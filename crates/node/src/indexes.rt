@@ -9,7 +9,7 @@ ghost use Rattle.tree.specs.DocumentId.{is_design_id};
 ghost use Rattle.write.specs.BulkResults.{IsUnrefused, OfFirst};
 ghost use Rattle.api.specs.Refusals.{there_or};
 ghost use Rattle.node.specs.inner.Drafts.{says_made};
-ghost use Rattle.node.specs.inner.Coming.{Comes, WorksIn};
+ghost use Rattle.node.specs.inner.Coming.{MatchesDefinition, WorksIn};
 ghost use Rattle.node.specs.Works.{index_asked_in, index_reply, index_written};
 
 use crate::bulk_reply::refusal_of_edit;
@@ -42,7 +42,7 @@ pub(crate) fn write_index<S: Store>(
 
 /// Reads the index that a body asks to declare.
 fn read_index(alloc: Global, value: &Json) -> Result<Index, EarlyEnd>
-    ensures comes { Comes index_asked result (there_or Refusal.Body (index_in (view value.now))) }
+    ensures comes { MatchesDefinition index_asked result (there_or Refusal.Body (index_in (view value.now))) }
     ensures design { IfOk result (λ index. is_design_id index.design ≡ true) }
     ensures ends { IfErr result (λ stop. stop ≢ EarlyEnd.Failed) }
 {

@@ -9,8 +9,9 @@ ghost use Rattle.policy.specs.declared.rule.Rule.{Rule};
 ghost use Rattle.store.specs.Contents.{Contents};
 ghost use Rattle.store.specs.Database.{Database};
 ghost use Rattle.store.specs.Lawful.{AreLawful};
+ghost use Rattle.tree.specs.History.{ancestors_of_parent};
 ghost use Rattle.tree.specs.Revision.{Revision};
-ghost use Rattle.write.specs.Admission.{edit_path, revision_after, write_at};
+ghost use Rattle.write.specs.Admission.{revision_after, write_at};
 ghost use Rattle.write.specs.Denials.{EditHasLeave, EditIsDueTo, ReplicationHasLeave, ReplicationIsDueTo};
 ghost use Rattle.write.specs.Document.{member_text};
 ghost use Rattle.write.specs.declared.fault.WriteFault.TheVariants.{Denied};
@@ -24,7 +25,7 @@ ghost use Rattle.api.specs.Paths.{database_name_in};
 ghost use Rattle.api.specs.Refusals.{name_of_rule, rule_of, status_of};
 ghost use Rattle.api.specs.declared.method.RequestMethod.TheVariants.{Put, Delete};
 ghost use Rattle.api.specs.declared.refusal.Refusal.{Refusal};
-ghost use Rattle.node.specs.Hidden.{AreAlike, AreHidden, Group, Names, is_struck};
+ghost use Rattle.node.specs.Hidden.{AreAlike, AreHidden, CallerGroup, Names, is_struck};
 ghost use Rattle.node.specs.Runs.{AreServed, IsRun, Stepped, Steps, end_of, messages_of};
 
 /// No answer has a status that stands for a failure; one from 400 on changes nothing.
@@ -106,7 +107,7 @@ pub fn writes_with_leave_are_accepted()
         → (leave : EditHasLeave (shared_terms among) among.id (histories_left among among.id) None among.document)
         → revision_after leave.sent leave.parent ≡ Some rev
         → answer c databases m
-        ≡ answer_with among (Ok (Some (write_at among.id (edit_path (histories_left among among.id) leave.parent rev) leave.sent)))
+        ≡ answer_with among (Ok (Some (write_at among.id (rev ∷ ancestors_of_parent (histories_left among among.id) leave.parent) leave.sent)))
         (object (made_members (Some among.id) rev) ∷ []) }
     ensures replicated { (c : Configuration) (databases : Contents) (m : Message) → (among : IsAmong c databases m false)
         → (leave : ReplicationHasLeave (shared_terms among) among.id (histories_left among among.id) among.document)
@@ -118,11 +119,11 @@ pub fn writes_with_leave_are_accepted()
 /// these databases, which may as well be struck. States that can't be told apart stay so, through
 /// each request that is answered by both, and where one of them alone answers a struck one.
 pub fn hidden_databases_tell_nothing()
-    ensures answers { (c : Configuration) (group : Group) (names : Names) (a b : Contents) (m : Message) → AreAlike names a b → AreHidden group names a
+    ensures answers { (c : Configuration) (group : CallerGroup) (names : Names) (a b : Contents) (m : Message) → AreAlike names a b → AreHidden group names a
         → is_struck c group names m ≡ false → answer c a m ≡ answer c b m }
-    ensures stays { (c : Configuration) (group : Group) (names : Names) (a b : Contents) (m : Message) → AreAlike names a b → AreHidden group names a
+    ensures stays { (c : Configuration) (group : CallerGroup) (names : Names) (a b : Contents) (m : Message) → AreAlike names a b → AreHidden group names a
         → is_struck c group names m ≡ false → AreAlike names (with_change (answer c a m).change a) (with_change (answer c b m).change b) }
-    ensures struck { (c : Configuration) (group : Group) (names : Names) (a b : Contents) (m : Message) → is_struck c group names m ≡ true
+    ensures struck { (c : Configuration) (group : CallerGroup) (names : Names) (a b : Contents) (m : Message) → is_struck c group names m ≡ true
         → AreAlike names a b → AreAlike names (with_change (answer c a m).change a) b }
 {}
 

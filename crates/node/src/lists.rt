@@ -2,7 +2,7 @@
 //! api/database/bulk-api, api/database/changes and api/database/misc).
 
 ghost use Rattle.couch_http.specs.Message.{message_of};
-ghost use Rattle.node.specs.inner.Coming.{Reads};
+ghost use Rattle.node.specs.inner.Coming.{IsDatabaseRead};
 ghost use Rattle.node.specs.Works.{change_list, difference_list, document_list};
 
 use crate::early_end::EarlyEnd;
@@ -20,7 +20,7 @@ pub(crate) fn list_documents<S: Store>(
     name: &DbName,
     request: &Request,
 ) -> Result<JsonText, EarlyEnd>
-    ensures reads { Reads S.Store store.old store.new name.now (document_list (message_of request.now)) result }
+    ensures reads { IsDatabaseRead S.Store store.old store.new name.now (document_list (message_of request.now)) result }
 {
     let range = listing_query(alloc, request)?;
     Ok(all_docs(alloc, store, name, range)?)
@@ -33,7 +33,7 @@ pub(crate) fn list_changes<S: Store>(
     name: &DbName,
     request: &Request,
 ) -> Result<JsonText, EarlyEnd>
-    ensures reads { Reads S.Store store.old store.new name.now (change_list (message_of request.now)) result }
+    ensures reads { IsDatabaseRead S.Store store.old store.new name.now (change_list (message_of request.now)) result }
 {
     let range = changes_query(alloc, request)?;
     Ok(changes(alloc, store, name, &range)?)
@@ -46,7 +46,7 @@ pub(crate) fn tell_differences<S: Store>(
     name: &DbName,
     request: &Request,
 ) -> Result<JsonText, EarlyEnd>
-    ensures reads { Reads S.Store store.old store.new name.now (difference_list (message_of request.now)) result }
+    ensures reads { IsDatabaseRead S.Store store.old store.new name.now (difference_list (message_of request.now)) result }
 {
     without_parameters(request)?;
     let value = body(alloc, request)?;

@@ -8,7 +8,7 @@ ghost use Rattle.store.specs.Contents.{local_at};
 ghost use Rattle.write.specs.LocalWrites.{local_outcome};
 ghost use Rattle.write.specs.Planning.{IsLocal};
 ghost use Rattle.node.specs.inner.Drafts.{IsLocalReply};
-ghost use Rattle.node.specs.inner.Coming.{Reads, WorksIn};
+ghost use Rattle.node.specs.inner.Coming.{IsDatabaseRead, WorksIn};
 ghost use Rattle.node.specs.Works.{local_members, local_read, local_set, local_written};
 
 use crate::bulk_reply::{known_members, refusal_of_edit};
@@ -31,7 +31,7 @@ pub(crate) fn read_local<S: Store>(
     name: &DbName,
     request: &Request,
 ) -> Result<JsonText, EarlyEnd>
-    ensures reads { Reads S.Store store.old store.new name.now (local_read (message_of request.now)) result }
+    ensures reads { IsDatabaseRead S.Store store.old store.new name.now (local_read (message_of request.now)) result }
 {
     let id = local_id(alloc, &request.path)?;
     without_parameters(request)?;

@@ -3,7 +3,7 @@
 ghost use Rattle.couch_http.specs.Message.{message_of};
 ghost use Rattle.couch_json.specs.View.{view};
 ghost use Rattle.write.specs.Planning.{security_outcome};
-ghost use Rattle.node.specs.inner.Coming.{Reads, WorksIn};
+ghost use Rattle.node.specs.inner.Coming.{IsDatabaseRead, WorksIn};
 ghost use Rattle.node.specs.Works.{security_read, security_set, security_written};
 
 use crate::databases::done;
@@ -23,7 +23,7 @@ pub(crate) fn read_security<S: Store>(
     name: &DbName,
     request: &Request,
 ) -> Result<JsonText, EarlyEnd>
-    ensures reads { Reads S.Store store.old store.new name.now (security_read (message_of request.now)) result }
+    ensures reads { IsDatabaseRead S.Store store.old store.new name.now (security_read (message_of request.now)) result }
 {
     without_parameters(request)?;
     let security = store.security(name)?;

@@ -4,7 +4,7 @@ ghost use Rattle.std.specs.Prelude.{◌≡◌, IfOk, Ok};
 ghost use Rattle.couch_http.specs.Message.{message_of};
 ghost use Rattle.node.specs.Answer.{welcome};
 ghost use Rattle.api.specs.RequestReading.{Says};
-ghost use Rattle.api.specs.Refusals.{next};
+ghost use Rattle.api.specs.Refusals.{and_then};
 ghost use Rattle.api.specs.Asking.{plain};
 
 use api::{RequestFault, put_text, without_parameters};
@@ -14,7 +14,7 @@ use std::alloc::Global;
 
 /// Says who answers here.
 pub(crate) fn tell_welcome(alloc: Global, request: &Request) -> Result<JsonText, RequestFault>
-    ensures { Says (λ value. value) result (next (plain (message_of request.now)) (λ _. Ok welcome)) }
+    ensures { Says (λ value. value) result (and_then (plain (message_of request.now)) (λ _. Ok welcome)) }
 {
     without_parameters(request)?;
     Ok(welcome(alloc)?)

@@ -4,11 +4,11 @@ ghost use Rattle.std.specs.Prelude.{◌≡◌, IfOk, IfErr, Ok, Some};
 ghost use Rattle.std.specs.FinMap as map;
 ghost use Rattle.couch_http.specs.Message.{message_of};
 ghost use Rattle.store.specs.Calls.{OnlyReads};
-ghost use Rattle.node.specs.Answer.{entry, outcome_in, task_outcome, work_task};
+ghost use Rattle.node.specs.Answer.{entry, outcome_in_database, task_outcome, work_task};
 ghost use Rattle.node.specs.inner.Drafts.{MayChange, outcome_of, reading_of, work_of, writing_of};
 ghost use Rattle.node.specs.Causes.{Ends};
-ghost use Rattle.node.specs.inner.Coming.{Comes, Judges, OfThere, Reads, WorksIn};
-ghost use Rattle.api.specs.Refusals.{next};
+ghost use Rattle.node.specs.inner.Coming.{MatchesDefinition, IsJudgedRequest, ForExisting, IsDatabaseRead, WorksIn};
+ghost use Rattle.api.specs.Refusals.{and_then};
 
 use crate::bulk::write_documents;
 use crate::databases::read_database;
@@ -87,8 +87,8 @@ pub(crate) fn do_work<S: Store>(
     work: Work,
     request: &Request,
 ) -> Result<Draft, EarlyEnd>
-    ensures judges { Judges S.Store store.old store.new
-        (next (work_task action (message_of request.now) (work_of work caller.now (message_of request.now)))
+    ensures judges { IsJudgedRequest S.Store store.old store.new
+        (and_then (work_task action (message_of request.now) (work_of work caller.now (message_of request.now)))
         (task_outcome caller.now (S.contents store.old))) result }
 {
     let name = database_name(alloc, &request.path)?;
@@ -105,8 +105,8 @@ fn enter<S: Store>(
     caller: &Caller,
     name: &DbName,
 ) -> Result<(), EarlyEnd>
-    ensures comes { S.is_honest store.new → Comes (λ _. map.get (S.contents store.old) name.now) result
-        (next (entry caller.now action (map.get (S.contents store.old) name.now)) (λ db. Ok (Some db))) }
+    ensures comes { S.is_honest store.new → MatchesDefinition (λ _. map.get (S.contents store.old) name.now) result
+        (and_then (entry caller.now action (map.get (S.contents store.old) name.now)) (λ db. Ok (Some db))) }
     ensures ends { IfErr result (Ends S.Store store.old store.new) }
     ensures reads { OnlyReads S.Store store.old store.new }
 {
@@ -126,10 +126,10 @@ fn perform<S: Store>(
     work: Work,
     request: &Request,
 ) -> Result<Draft, EarlyEnd>
-    ensures comes { S.is_honest store.new → OfThere (S.contents store.old) name.now (λ db. Comes (outcome_of (S.contents store.old)) result
-        (next (work_of work caller.now (message_of request.now) name.now db) (λ d. Ok (outcome_in name.now d)))) }
+    ensures comes { S.is_honest store.new → ForExisting (S.contents store.old) name.now (λ db. MatchesDefinition (outcome_of (S.contents store.old)) result
+        (and_then (work_of work caller.now (message_of request.now) name.now db) (λ d. Ok (outcome_in_database name.now d)))) }
     ensures may { S.is_honest store.new
-        → OfThere (S.contents store.old) name.now (λ db. IfOk result (λ answered. MayChange (S.contents store.old) answered.change)) }
+        → ForExisting (S.contents store.old) name.now (λ db. IfOk result (λ answered. MayChange (S.contents store.old) answered.change)) }
     ensures ends { IfErr result (Ends S.Store store.old store.new) }
     ensures reads { OnlyReads S.Store store.old store.new }
 {
@@ -161,7 +161,7 @@ fn read<S: Store>(
     reading: Reading,
     request: &Request,
 ) -> Result<JsonText, EarlyEnd>
-    ensures reads { Reads S.Store store.old store.new name.now (reading_of reading (message_of request.now) name.now) result }
+    ensures reads { IsDatabaseRead S.Store store.old store.new name.now (reading_of reading (message_of request.now) name.now) result }
 {
     match reading {
         Reading::Database => read_database(alloc, store, name, request),

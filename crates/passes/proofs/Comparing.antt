@@ -19,10 +19,10 @@ use Rattle.policy.specs.declared.action.Action.TheVariants.{WriteDocument}
 use Rattle.store.specs.Contents.{Contents}
 use Rattle.store.specs.Database.{Database}
 use Rattle.read.specs.Differences.{revision_differences}
-use Rattle.api.specs.Asking.{body_of, plain, value_or_refusal}
+use Rattle.api.specs.Asking.{json_body, plain, value_or_refusal}
 use Rattle.api.specs.Bulk.{bulk_in}
-use Rattle.api.specs.Listings.{differences_in}
-use Rattle.api.specs.Refusals.{next, there_or}
+use Rattle.api.specs.Listings.{requested_differences}
+use Rattle.api.specs.Refusals.{and_then, there_or}
 use Rattle.api.specs.declared.method.RequestMethod.TheVariants.{Post}
 use Rattle.api.specs.declared.page.Page.{Page}
 use Rattle.api.specs.declared.page.Page.TheVariants.{Welcome, AllDatabases, Database as DatabasePage, Security, BulkDocuments, AllDocuments, Changes, Differences, Find, Index, View, Document, LocalDocument}
@@ -33,7 +33,7 @@ use Rattle.node.specs.Work.{Done}
 use Rattle.node.specs.Works.{bulk_written, difference_list, document_finds, documents_reply, documents_written, index_asked_in, index_written}
 use Rattle.node.proofs.Tasks.{named as was_named, same, went}
 use Rattle.repl.specs.Calls.{Revisions, compare_revisions, request_of, revisions_put, texts_value}
-use Rattle.repl.specs.Configuration.{database_of}
+use Rattle.repl.specs.Configuration.{database_of_side}
 use Rattle.passes.proofs.Judged.{WasRead, judged, never, read_never, read_out, there_never, work_out}
 use Rattle.passes.proofs.Spellings.{leads_into}
 use Rattle.passes.specs.Spelled.{RevisionsAreCompared}
@@ -100,20 +100,20 @@ no_index ms h =
 -- ---- the call
 
 abbrev pub HasBody : Message → Members → Type 0
-HasBody m ms = (w : Value) → body_of m ≡ Ok w → w ≡ object ms
+HasBody m ms = (w : Value) → json_body m ≡ Ok w → w ≡ object ms
 
 -- reading a body that is refused where its value is this object
 body_never : {A B : Type 0} (m : Message) (ms : Members) (read : Value → Option A) (go : Value → A → Result B Refusal) (b : B) → HasBody m ms → read (object ms) ≡ None
-    → next (plain m) (λ _. next (body_of m) (λ value. next (there_or Body (read value)) (λ a. go value a))) ≡ Ok b → ⊥
+    → and_then (plain m) (λ _. and_then (json_body m) (λ value. and_then (there_or Body (read value)) (λ a. go value a))) ≡ Ok b → ⊥
 body_never m ms read go b is none e =
-    let k = went (plain m) (λ _. next (body_of m) (λ value. next (there_or Body (read value)) (λ a. go value a))) b e in
-    let l = went (body_of m) (λ value. next (there_or Body (read value)) (λ a. go value a)) b k.then in
+    let k = went (plain m) (λ _. and_then (json_body m) (λ value. and_then (there_or Body (read value)) (λ a. go value a))) b e in
+    let l = went (json_body m) (λ value. and_then (there_or Body (read value)) (λ a. go value a)) b k.then in
     there_never Body (read l.first) (λ a. go l.first a) b (ap read (is l.first l.was) ∙ none) l.then
 
 status_of_bulk : (caller : auth.Identity) (m : Message) (name : List ℕ) (db : Database) (d : Done) → documents_written caller m name db ≡ Ok d → d.status ≡ 201
 status_of_bulk caller m name db d e =
-    let k = went (plain m) (λ _. next (body_of m) (λ value. next (there_or Body (bulk_in value)) (λ bulk. bulk_written caller bulk name db))) d e in
-    let l = went (body_of m) (λ value. next (there_or Body (bulk_in value)) (λ bulk. bulk_written caller bulk name db)) d k.then in
+    let k = went (plain m) (λ _. and_then (json_body m) (λ value. and_then (there_or Body (bulk_in value)) (λ bulk. bulk_written caller bulk name db))) d e in
+    let l = went (json_body m) (λ value. and_then (there_or Body (bulk_in value)) (λ bulk. bulk_written caller bulk name db)) d k.then in
     let b = went (there_or Body (bulk_in l.first)) (λ bulk. bulk_written caller bulk name db) d l.then in
     sym (ap (λ (x : Done). x.status) (same {A = Done} _ d b.then))
 
@@ -154,14 +154,14 @@ compared_by c a k side leaves small lawful ok =
     let body : HasBody m ms = λ w e. sym (what_was_read (object ms) w lawful (value_was (reading m.body) w e)) in
     let j = judged c a m (omega (arith, ok)) in
     let w = at_page j.page j.caller a m ms j.task j.outcome body (lists_all leaves no_members tt) (ap (λ (x : Outcome). x.status) (sym j.told) ∙ ok) j.asked j.came in
-    let into : database_of k side ≡ w.name = leads_into (database_of k side) (codes "_revs_diff") w.name small w.own in
-    let p = went (plain m) (λ _. next (body_of m) (λ value. next (there_or Body (differences_in value)) (λ asked. Ok (revision_differences asked w.db)))) w.value w.was in
-    let l = went (body_of m) (λ value. next (there_or Body (differences_in value)) (λ asked. Ok (revision_differences asked w.db))) w.value p.then in
-    let d = went (there_or Body (differences_in l.first)) (λ asked. Ok (revision_differences asked w.db)) w.value l.then in
+    let into : database_of_side k side ≡ w.name = leads_into (database_of_side k side) (codes "_revs_diff") w.name small w.own in
+    let p = went (plain m) (λ _. and_then (json_body m) (λ value. and_then (there_or Body (requested_differences value)) (λ asked. Ok (revision_differences asked w.db)))) w.value w.was in
+    let l = went (json_body m) (λ value. and_then (there_or Body (requested_differences value)) (λ asked. Ok (revision_differences asked w.db))) w.value p.then in
+    let d = went (there_or Body (requested_differences l.first)) (λ asked. Ok (revision_differences asked w.db)) w.value l.then in
     record {
       db = w.db;
       asked = d.first;
       there = ap (get a) into ∙ w.there;
-      says = ap differences_in (sym (body l.first l.was)) ∙ was_named Body (differences_in l.first) d.first d.was;
+      says = ap requested_differences (sym (body l.first l.was)) ∙ was_named Body (requested_differences l.first) d.first d.was;
       is = j.told ∙ w.is ∙ ap reply (sym (same {A = Value} _ w.value d.then));
     }

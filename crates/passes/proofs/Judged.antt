@@ -8,14 +8,14 @@ use Rattle.policy.specs.declared.action.Action.{Action}
 use Rattle.policy.specs.declared.action.Action.TheVariants.{Read}
 use Rattle.store.specs.Contents.{Contents}
 use Rattle.store.specs.Database.{Database}
-use Rattle.api.specs.Asking.{asker, lacks_parameters, method_of, plain}
+use Rattle.api.specs.Asking.{asker, lacks_parameters, method_named, plain}
 use Rattle.api.specs.Paths.{database_name_in}
-use Rattle.api.specs.Refusals.{next, status_of, there_or, true_or}
+use Rattle.api.specs.Refusals.{and_then, status_of, there_or, true_or}
 use Rattle.api.specs.Routing.{page_of}
 use Rattle.api.specs.declared.page.Page.{Page}
 use Rattle.api.specs.declared.refusal.Refusal.{Refusal}
 use Rattle.api.specs.declared.refusal.Refusal.TheVariants.{Unauthorized, Forbidden, Path, Method, DatabaseName, NoDatabase, Exists, Id, Query, Syntax, Body, BadDocument, BadHistory, Conflict, Generation, Missing, Deleted}
-use Rattle.node.specs.Answer.{Outcome, Task, answer, database_name_of, entry, judgement, outcome_in, page_outcome, reply, settlement, task_of, task_outcome, work_task, worked}
+use Rattle.node.specs.Answer.{Outcome, Task, answer, database_name_of, entry, judgement, outcome_in_database, page_outcome, reply, settlement, task_of, task_outcome, work_task, worked}
 use Rattle.node.specs.Work.{Done, Work, read_work, value_done}
 use Rattle.node.proofs.Tasks.{named, same, there, well, went}
 
@@ -47,15 +47,15 @@ pub never : {A : Type 0} (r : Refusal) (a : A) → ill r ≡ well a → ⊥
 never r a e = cc
 
 -- a step that is never taken well
-pub next_never : {A B : Type 0} (r : Result A Refusal) (go : A → Result B Refusal) (b : B) → ((a : A) → go a ≡ Ok b → ⊥) → next r go ≡ Ok b → ⊥
+pub next_never : {A B : Type 0} (r : Result A Refusal) (go : A → Result B Refusal) (b : B) → ((a : A) → go a ≡ Ok b → ⊥) → and_then r go ≡ Ok b → ⊥
 next_never r go b none e = let k = went r go b e in none k.first k.then
 
-pub there_never : {A B : Type 0} (refusal : Refusal) (o : Option A) (go : A → Result B Refusal) (b : B) → o ≡ None → next (there_or refusal o) go ≡ Ok b → ⊥
+pub there_never : {A B : Type 0} (refusal : Refusal) (o : Option A) (go : A → Result B Refusal) (b : B) → o ≡ None → and_then (there_or refusal o) go ≡ Ok b → ⊥
 there_never {A} {B} refusal o go b none e =
-    never refusal b (subst (λ (x : Option A). next (there_or refusal x) go ≡ Ok b) none e)
+    never refusal b (subst (λ (x : Option A). and_then (there_or refusal x) go ≡ Ok b) none e)
 
-pub plain_never : {B : Type 0} (m : Message) (go : Unit {0} → Result B Refusal) (b : B) → lacks_parameters m.query ≡ false → next (plain m) go ≡ Ok b → ⊥
-plain_never {B} m go b some e = never Query b (subst (λ (x : Bool). next (true_or Query x) go ≡ Ok b) some e)
+pub plain_never : {B : Type 0} (m : Message) (go : Unit {0} → Result B Refusal) (b : B) → lacks_parameters m.query ≡ false → and_then (plain m) go ≡ Ok b → ⊥
+plain_never {B} m go b some e = never Query b (subst (λ (x : Bool). and_then (true_or Query x) go ≡ Ok b) some e)
 
 -- ---- an answer that is no refusal
 
@@ -67,7 +67,7 @@ pub record Judged (c : Configuration) (a : Contents) (m : Message) : Type 0 wher
   pub asks : asker c m ≡ Ok caller
   pub told : answer c a m ≡ outcome
   pub leads : page_of m.path ≡ Some page
-  pub asked : task_of page (method_of m.method) caller m ≡ Ok task
+  pub asked : task_of page (method_named m.method) caller m ≡ Ok task
   pub came : task_outcome caller a task ≡ Ok outcome
 
 record Settled (r : Result Outcome Refusal) : Type 0 where
@@ -83,9 +83,9 @@ pub judged : (c : Configuration) (a : Contents) (m : Message) → (answer c a m)
 judged c a m low =
     let s = settled (judgement c a m) low in
     let o = s.outcome in
-    let k = went (asker c m) (λ caller. next (there_or Path (page_of m.path)) (λ page. page_outcome page (method_of m.method) caller a m)) o s.was in
-    let l = went (there_or Path (page_of m.path)) (λ page. page_outcome page (method_of m.method) k.first a m) o k.then in
-    let t = went (task_of l.first (method_of m.method) k.first m) (λ task. task_outcome k.first a task) o l.then in
+    let k = went (asker c m) (λ caller. and_then (there_or Path (page_of m.path)) (λ page. page_outcome page (method_named m.method) caller a m)) o s.was in
+    let l = went (there_or Path (page_of m.path)) (λ page. page_outcome page (method_named m.method) k.first a m) o k.then in
+    let t = went (task_of l.first (method_named m.method) k.first m) (λ task. task_outcome k.first a task) o l.then in
     record { outcome = o; caller = k.first; page = l.first; task = t.first; asks = k.was; told = s.told; leads = named Path (page_of m.path) l.first l.was; asked = t.was; came = t.then }
 
 -- ---- work in the database of the path
@@ -97,15 +97,15 @@ pub record Worked (a : Contents) (m : Message) (work : List ℕ → Work) (o : O
   pub own : database_name_in m.path ≡ Some name
   pub there : get a name ≡ Some db
   pub was : work name db ≡ Ok done
-  pub is : o ≡ outcome_in name done
+  pub is : o ≡ outcome_in_database name done
 
 pub work_out : (caller : Identity) (a : Contents) (m : Message) (action : Action) (work : List ℕ → Work) (task : Task) (o : Outcome)
     → work_task action m work ≡ Ok task → task_outcome caller a task ≡ Ok o → Worked a m work o
 work_out caller a m action work task o e f =
     let k = went (database_name_of m) (λ name. Ok (worked action name (work name))) task e in
     let g : task_outcome caller a (worked action k.first (work k.first)) ≡ Ok o = subst (λ (t : Task). task_outcome caller a t ≡ Ok o) (sym (same {A = Task} _ task k.then)) f in
-    let l = went (entry caller action (get a k.first)) (λ db. next (work k.first db) (λ d. Ok (outcome_in k.first d))) o g in
-    let n = went (work k.first l.first) (λ d. Ok (outcome_in k.first d)) o l.then in
+    let l = went (entry caller action (get a k.first)) (λ db. and_then (work k.first db) (λ d. Ok (outcome_in_database k.first d))) o g in
+    let n = went (work k.first l.first) (λ d. Ok (outcome_in_database k.first d)) o l.then in
     record {
       name = k.first;
       db = l.first;
@@ -137,7 +137,7 @@ read_out caller a m read task o e f =
       own = w.own;
       there = w.there;
       was = k.was;
-      is = w.is ∙ ap (outcome_in w.name) (sym (same {A = Done} _ w.done k.then));
+      is = w.is ∙ ap (outcome_in_database w.name) (sym (same {A = Done} _ w.done k.then));
     }
 
 -- a page whose reads are all refused

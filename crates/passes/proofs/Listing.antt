@@ -1,6 +1,6 @@
 -- A call for the changes that is answered with 200 lists them.
 use Rattle.std.proofs.Common.{◌≡◌, ◌≤◌, ◌<◌, ◌^◌, ℕ, true, false, Option, Some, None, option_map, option_and_then, Ok, codes, sym, ap, ◌∙◌, arith}
-use Rattle.std.specs.Prelude.{IfSome}
+use Rattle.std.specs.Prelude.{IfSome, unwrap_or}
 use Rattle.couch_json.specs.Range.{greatest_count}
 use Rattle.std.specs.FinMap.{get}
 use Rattle.auth.specs.Callers as auth
@@ -12,24 +12,24 @@ use Rattle.store.specs.declared.listing.SeqRange.{SeqRange}
 use Rattle.read.specs.Changes.{changes_in}
 use Rattle.api.specs.Asking.{is_nothing, lacks_parameters, plain}
 use Rattle.api.specs.Listings as api
-use Rattle.api.specs.Listings.{changes_asked, changes_by, listing_query, range_asked}
-use Rattle.api.specs.Paths.{document_id_in, index_name_in, local_id_in}
+use Rattle.api.specs.Listings.{changes_asked, listing_query, range_asked}
+use Rattle.api.specs.Paths.{document_id_in, index_name_in_path, local_id_in}
 use Rattle.api.specs.Queries.{asked_of_document, document_query}
-use Rattle.api.specs.Refusals.{next, there_or}
+use Rattle.api.specs.Refusals.{and_then, there_or}
 use Rattle.api.specs.Views.{keys_asked, view_query}
 use Rattle.api.specs.declared.method.RequestMethod.TheVariants.{Get}
 use Rattle.api.specs.declared.page.Page.{Page}
 use Rattle.api.specs.declared.page.Page.TheVariants.{Welcome, AllDatabases, Database as DatabasePage, Security, BulkDocuments, AllDocuments, Changes, Differences, Find, Index, View, Document, LocalDocument}
 use Rattle.api.specs.declared.refusal.Refusal.TheVariants.{Id, Method, Query}
 use Rattle.node.specs.Answer.{Outcome, Task, administration, listed, reply, task_of, task_outcome, told, welcome}
-use Rattle.node.specs.Works.{change_list, database_read, document_list, document_read, found, local_read, read_by, security_read, view_read}
+use Rattle.node.specs.Works.{change_list, database_read, document_list, document_read, refusal_of_read, local_read, read_by, security_read, view_read}
 use Rattle.node.proofs.Tasks.{named as was_named, same, went}
 use Rattle.read.specs.Information.{information}
 use Rattle.read.specs.Listing.{document_listing}
 use Rattle.read.specs.Local.{local_document}
 use Rattle.read.specs.Views.{view_listing}
-use Rattle.repl.specs.Calls.{changes_query, list_changes, request_of}
-use Rattle.repl.specs.Configuration.{Configuration, database_of}
+use Rattle.repl.specs.Calls.{changes_call_query, list_changes, request_of}
+use Rattle.repl.specs.Configuration.{PassConfiguration, database_of_side}
 use Rattle.repl.specs.declared.side.Side.{Side}
 use Rattle.passes.proofs.Judged.{WasRead, judged, never, next_never, plain_never, read_never, read_out, there_never}
 use Rattle.passes.proofs.Spellings.{changes-pairs, changes-parameters, count-decimal, leads_into}
@@ -45,20 +45,20 @@ record AsksChanges (m : Message) (range : SeqRange) : Type 0 where
 
 no_document : (m : Message) (range : SeqRange) → AsksChanges m range → (db : Database) (v : Value) → document_read m db ≡ Ok v → ⊥
 no_document m range asks db v e =
-    next_never (there_or Id (document_id_in m.path)) (λ id. next (there_or Query (document_query m.query)) (λ query. found (read_by id query.revs query.asked db))) v
-    (λ id k. there_never Query (document_query m.query) (λ query. found (read_by id query.revs query.asked db)) v asks.document k) e
+    next_never (there_or Id (document_id_in m.path)) (λ id. and_then (there_or Query (document_query m.query)) (λ query. refusal_of_read (read_by id query.revs query.asked db))) v
+    (λ id k. there_never Query (document_query m.query) (λ query. refusal_of_read (read_by id query.revs query.asked db)) v asks.document k) e
 
 no_view : (m : Message) (range : SeqRange) → AsksChanges m range → (db : Database) (v : Value) → view_read m db ≡ Ok v → ⊥
 no_view m range asks db v e =
     next_never (there_or Id (document_id_in m.path))
-    (λ design. next (there_or Id (index_name_in m.path)) (λ index. next (there_or Query (view_query m.query)) (λ keys. found (view_listing keys design index db)))) v
-    (λ design k. next_never (there_or Id (index_name_in m.path)) (λ index. next (there_or Query (view_query m.query)) (λ keys. found (view_listing keys design index db))) v
-    (λ index l. there_never Query (view_query m.query) (λ keys. found (view_listing keys design index db)) v asks.view l) k) e
+    (λ design. and_then (there_or Id (index_name_in_path m.path)) (λ index. and_then (there_or Query (view_query m.query)) (λ keys. refusal_of_read (view_listing keys design index db)))) v
+    (λ design k. next_never (there_or Id (index_name_in_path m.path)) (λ index. and_then (there_or Query (view_query m.query)) (λ keys. refusal_of_read (view_listing keys design index db))) v
+    (λ index l. there_never Query (view_query m.query) (λ keys. refusal_of_read (view_listing keys design index db)) v asks.view l) k) e
 
 no_local : (m : Message) (range : SeqRange) → AsksChanges m range → (db : Database) (v : Value) → local_read m db ≡ Ok v → ⊥
 no_local m range asks db v e =
-    next_never (there_or Id (local_id_in m.path)) (λ id. next (plain m) (λ _. found (local_document id db))) v
-    (λ id k. plain_never m (λ _. found (local_document id db)) v asks.some k) e
+    next_never (there_or Id (local_id_in m.path)) (λ id. and_then (plain m) (λ _. refusal_of_read (local_document id db))) v
+    (λ id k. plain_never m (λ _. refusal_of_read (local_document id db)) v asks.some k) e
 
 abbrev Listed : Contents → Message → Outcome → Type 0
 Listed a m o = WasRead a m (λ name. change_list m) o
@@ -67,7 +67,7 @@ at_page : (page : Page) (caller : auth.Identity) (a : Contents) (m : Message) (r
     → task_of page (Some Get) caller m ≡ Ok task → task_outcome caller a task ≡ Ok o → Listed a m o
 at_page Welcome caller a m range task o asks e f = absurd (plain_never m (λ _. Ok (told welcome)) task asks.some e)
 at_page AllDatabases caller a m range task o asks e f =
-    absurd (next_never (administration caller) (λ _. next (plain m) (λ _. Ok listed)) task (λ u k. plain_never m (λ _. Ok listed) task asks.some k) e)
+    absurd (next_never (administration caller) (λ _. and_then (plain m) (λ _. Ok listed)) task (λ u k. plain_never m (λ _. Ok listed) task asks.some k) e)
 at_page DatabasePage caller a m range task o asks e f =
     absurd (read_never caller a m (λ name. database_read m name) task o (λ name db v k. plain_never m (λ _. Ok (information name db)) v asks.some k) e f)
 at_page Security caller a m range task o asks e f =
@@ -91,10 +91,10 @@ abbrev given : ℕ → Option ℕ
 given n = Some n
 
 abbrev are_asked : Option (Option ℕ) → Option (Option ℕ) → Option SeqRange
-are_asked limit since = option_and_then (λ n. option_and_then (λ l. option_map (λ style. changes_by n l style) (Some (Some true))) limit) since
+are_asked limit since = option_and_then (λ n. option_and_then (λ l. option_map (λ style. record { since = unwrap_or n 0; limit = l; all_leaves = unwrap_or style false; counted = false }) (Some (Some true))) limit) since
 
 -- what the query says
-query_says : (since : ℕ) (most : Option ℕ) → since ≤ greatest_count → IfSome most (λ n. n ≤ greatest_count) → api.changes_query (Some (changes_query since most)) ≡ Some (changes_after since most)
+query_says : (since : ℕ) (most : Option ℕ) → since ≤ greatest_count → IfSome most (λ n. n ≤ greatest_count) → api.changes_query (Some (changes_call_query since most)) ≡ Some (changes_after since most)
 query_says since None few bound =
     ap changes_asked (changes-parameters since None (omega arith) tt)
     ∙ ap (λ (o : Option ℕ). are_asked (Some None) (option_map (λ a. given a) o)) (count-decimal since few)
@@ -106,7 +106,7 @@ below : (most : Option ℕ) → IfSome most (λ n. n ≤ greatest_count) → IfS
 below None bound = tt
 below (Some n) bound = omega (arith, bound)
 
-asks : (k : Configuration) (side : Side) (since : ℕ) (most : Option ℕ) → since ≤ greatest_count → IfSome most (λ n. n ≤ greatest_count)
+asks : (k : PassConfiguration) (side : Side) (since : ℕ) (most : Option ℕ) → since ≤ greatest_count → IfSome most (λ n. n ≤ greatest_count)
     → AsksChanges (request_of k side (list_changes since most)) (changes_after since most)
 asks k side since most few bound =
     let parameters = changes-parameters since most (omega arith) (below most bound) in
@@ -125,7 +125,7 @@ changes_listed_by c a k side since most small few bound ok =
     let j = judged c a m (omega (arith, ok)) in
     let says = asks k side since most few bound in
     let w = at_page j.page j.caller a m range j.task j.outcome says j.asked j.came in
-    let named : database_of k side ≡ w.name = leads_into (database_of k side) (codes "_changes") w.name small w.own in
+    let named : database_of_side k side ≡ w.name = leads_into (database_of_side k side) (codes "_changes") w.name small w.own in
     let l = went (there_or Query (api.changes_query m.query)) (λ r. Ok (changes_in r w.db)) w.value w.was in
     let same_range : range ≡ l.first = (let e : Some range ≡ Some l.first = sym says.changes ∙ was_named Query (api.changes_query m.query) l.first l.was in cc) in
     let value : changes_in range w.db ≡ w.value = ap (λ (r : SeqRange). changes_in r w.db) same_range ∙ same {A = Value} _ w.value l.then in

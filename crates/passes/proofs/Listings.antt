@@ -21,7 +21,7 @@ use Rattle.read.specs.Changes as read
 use Rattle.read.specs.Changes.{change_members, change_object, changes_of, with_deletion}
 use Rattle.read.specs.Listing.{revision_object}
 use Rattle.repl.specs.Calls.{Revisions}
-use Rattle.repl.specs.Replies.{Changes, change_in, changes_by, changes_in, revision_in}
+use Rattle.repl.specs.Replies.{Changes, change_in, changes_by_parts, changes_in_reply, revision_in_reply}
 use Rattle.couch_json.specs.Range.{greatest_count}
 use Rattle.repl.specs.Passes.{fills}
 use Rattle.repl.specs.Shapes.{before, each_in}
@@ -31,7 +31,7 @@ use Rattle.passes.specs.Spelled.{changes_after}
 
 -- ---- reading back
 
-revs_read : (rs : List Revision) → each_in revision_in (items_of (map revision_object rs)) ≡ Some (map text_of rs)
+revs_read : (rs : List Revision) → each_in revision_in_reply (items_of (map revision_object rs)) ≡ Some (map text_of rs)
 revs_read [] = refl
 revs_read (r ∷ rs) = ap (λ (o : Option (List (List ℕ))). before (Some (text_of r)) o) (revs_read rs)
 
@@ -48,10 +48,10 @@ rows_read [] = refl
 rows_read (r ∷ rows) = (λ i. before (change_by r.deleted r i) (rows_read rows i))
 
 -- what is read is the page
-page_read : (page : SequencePage) (c : Changes) → changes_in (changes_of page) ≡ Some c → (c.sequence ≡ page.last) × (c.leaves ≡ map row_read page.rows)
-page_read page c e = by (nat_le page.last greatest_count) (ap (λ (o : Option (List Revisions)). changes_by (cond (nat_le page.last greatest_count) (Some page.last) None) o) (sym (rows_read page.rows)) ∙ e)
+page_read : (page : SequencePage) (c : Changes) → changes_in_reply (changes_of page) ≡ Some c → (c.sequence ≡ page.last) × (c.leaves ≡ map row_read page.rows)
+page_read page c e = by (nat_le page.last greatest_count) (ap (λ (o : Option (List Revisions)). changes_by_parts (cond (nat_le page.last greatest_count) (Some page.last) None) o) (sym (rows_read page.rows)) ∙ e)
   where
-    by : (b : Bool) → changes_by (cond b (Some page.last) None) (Some (map row_read page.rows)) ≡ Some c → (c.sequence ≡ page.last) × (c.leaves ≡ map row_read page.rows)
+    by : (b : Bool) → changes_by_parts (cond b (Some page.last) None) (Some (map row_read page.rows)) ≡ Some c → (c.sequence ≡ page.last) × (c.leaves ≡ map row_read page.rows)
     by true is =
         let read : Changes = record { sequence = page.last; leaves = map row_read page.rows } in
         let same : read ≡ c = cc in
@@ -183,7 +183,7 @@ last_onward : (n : ℕ) (rs : List SequenceRow) → ((r : SequenceRow) → In rs
 last_onward n [] each all = omega arith
 last_onward n (r ∷ rs) each all = omega (arith, each r (inl refl), at_most_last n (r ∷ rs) r all (inl refl))
 
-pub whole_listing : (db : Database) (since : ℕ) (most : Option ℕ) (c : Changes) → HasSequences db → changes_in (read.changes_in (changes_after since most) db) ≡ Some c → Names db since most c
+pub whole_listing : (db : Database) (since : ℕ) (most : Option ℕ) (c : Changes) → HasSequences db → changes_in_reply (read.changes_in (changes_after since most) db) ≡ Some c → Names db since most c
 whole_listing db since most c has e =
     let page = page_by_sequence (changes_after since most) db in
     let read = page_read page c e in

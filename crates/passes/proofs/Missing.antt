@@ -19,7 +19,7 @@ use Rattle.tree.specs.Write.{StandsIn}
 use Rattle.tree.proofs.RevisionText.{read_of_text}
 use Rattle.store.specs.Database.{Database, history_at}
 use Rattle.read.specs.Differences.{RevisionsOf, history_by, missing_texts, revision_differences, with_difference, with_differences, with_missing}
-use Rattle.api.specs.Listings.{differences_in, revisions_of_members, with_revisions_of}
+use Rattle.api.specs.Listings.{requested_differences, revisions_of_members, with_revisions_of}
 use Rattle.api.specs.Queries.{revisions_in, revisions_listed}
 use Rattle.repl.specs.Calls.{Revisions, revisions_put, revisions_value, texts_value}
 use Rattle.repl.specs.Replies as replies
@@ -274,7 +274,7 @@ known_by db id r = by (is_document_id id)
     by false e = absurd (let k : false ≡ true = sym (ap (λ (o : Option Entry). is_some o) (get-empty {X = Entry} revision_cmp r)) ∙ e in cc)
 
 pub whole_comparison : (db : Database) (leaves missing : List Revisions) (asked : List RevisionsOf) → AreDistinct leaves → IsLawful (revisions_value leaves)
-    → differences_in (revisions_value leaves) ≡ Some asked → replies.differences_in leaves (revision_differences asked db) ≡ Some missing → Compares db leaves missing
+    → requested_differences (revisions_value leaves) ≡ Some asked → replies.differences_in_reply leaves (revision_differences asked db) ≡ Some missing → Compares db leaves missing
 whole_comparison db leaves missing asked distinct lawful says read id r good among =
     let v = revision_differences asked db in
     let row = row_of id r leaves no_members distinct among in

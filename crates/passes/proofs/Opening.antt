@@ -15,7 +15,7 @@ use Rattle.couch_http.specs.Message.{Message}
 use Rattle.couch_json.specs.Canonical.{canonical}
 use Rattle.couch_json.specs.Lawful.{IsLawful}
 use Rattle.couch_json.specs.Nesting.{nests_too_deep}
-use Rattle.couch_json.specs.Reading.{reading, value_or_fault}
+use Rattle.couch_json.specs.Reading.{reading, value_or_fault, value_read}
 use Rattle.couch_json.specs.Value.{Value, text, items_depth}
 use Rattle.couch_json.specs.View.{items_of}
 use Rattle.couch_json.specs.declared.fault.JsonFault.{JsonFault}
@@ -38,20 +38,20 @@ use Rattle.read.specs.Views.{view_listing}
 use Rattle.read.specs.OpenRevisions.{open_revisions}
 use Rattle.api.specs.Asking.{is_nothing, lacks_parameters, plain}
 use Rattle.api.specs.Listings.{changes_asked, changes_query, listing_query, range_asked}
-use Rattle.api.specs.Paths.{decoded_text, document_id_in, id_text_by, id_text_in, index_name_in, joined_by_slash, local_id_in, named_id_in, part_at, parts_of, slash, text_if}
-use Rattle.api.specs.Queries.{Asked, DocumentQuery, asked_of_document, document_query, parameter_of, parameters_in, revisions, revisions_listed, revisions_read}
-use Rattle.api.specs.Refusals.{next, there_or}
+use Rattle.api.specs.Paths.{decoded_text, document_id_in, id_text_by, id_text_in, index_name_in_path, joined_by_slash, local_id_in, named_id_in, part_at, parts_of, slash, text_if}
+use Rattle.api.specs.Queries.{RequestedRevisions, DocumentQuery, asked_of_document, document_query, parameter_of, parameters_in, revisions, revisions_listed}
+use Rattle.api.specs.Refusals.{and_then, there_or}
 use Rattle.api.specs.Views.{keys_asked, view_query}
 use Rattle.api.specs.declared.method.RequestMethod.TheVariants.{Get}
 use Rattle.api.specs.declared.page.Page.{Page}
 use Rattle.api.specs.declared.page.Page.TheVariants.{Welcome, AllDatabases, Database as DatabasePage, Security, BulkDocuments, AllDocuments, Changes, Differences, Find, Index, View, Document, LocalDocument}
 use Rattle.api.specs.declared.refusal.Refusal.TheVariants.{Id, Method, Query}
 use Rattle.node.specs.Answer.{Outcome, Task, administration, listed, reply, task_of, task_outcome, told, welcome}
-use Rattle.node.specs.Works.{change_list, database_read, document_list, document_read, found, local_read, read_by, security_read, view_read}
+use Rattle.node.specs.Works.{change_list, database_read, document_list, document_read, refusal_of_read, local_read, read_by, security_read, view_read}
 use Rattle.node.proofs.Tasks.{named as was_named, same, went}
-use Rattle.repl.specs.Calls.{Revisions, path_of, request_of, revisions_query, texts_value}
+use Rattle.repl.specs.Calls.{Revisions, page_path, request_of, revisions_query, texts_value}
 use Rattle.repl.specs.Calls as call
-use Rattle.repl.specs.Configuration.{Configuration, database_of}
+use Rattle.repl.specs.Configuration.{PassConfiguration, database_of_side}
 use Rattle.repl.specs.Spelling.{document_segments, segment}
 use Rattle.repl.specs.declared.side.Side.{Side}
 use Rattle.repl.proofs.Segments.{percent_decode-segment}
@@ -162,11 +162,11 @@ joined_was false rest id e = absurd cc
 
 -- the text of an id that a path leads to
 text_there : (db id t : List ℕ) (design : Bool) → AreBytes id → starts_with nat_eq id (codes "_design/") ≡ design
-    → id_text_in (path_of db (cond design (codes "_design/" ++ segment (drop 8 id)) (segment id))) ≡ Some t → id ≡ t
+    → id_text_in (page_path db (cond design (codes "_design/" ++ segment (drop 8 id)) (segment id))) ≡ Some t → id ≡ t
 text_there db id t true small is e =
     let rest = drop 8 id in
     let page = codes "_design/" ++ segment rest in
-    let path = path_of db page in
+    let path = page_path db page in
     let parts : parts_of path ≡ [] ∷ segment db ∷ codes "_design" ∷ segment rest ∷ [] = parts-path db page ∙ ap (λ (ps : List (List ℕ)). [] ∷ segment db ∷ codes "_design" ∷ ps) (one_part rest) in
     let text : id_text_in path ≡ option_map (λ b. codes "_design" ++ slash ∷ b) (text_if (is_utf8 rest) rest) =
     id_of_parts (part_at 3 path) path
@@ -176,7 +176,7 @@ text_there db id t true small is e =
     let same : rest ≡ b.0 = ap (drop 8) b.1 in
     b.1 ∙ ap (λ (x : List ℕ). codes "_design/" ++ x) (sym same) ∙ joined_was (is_utf8 rest) rest t (sym text ∙ e)
 text_there db id t false small is e =
-    let path = path_of db (segment id) in
+    let path = page_path db (segment id) in
     let parts : parts_of path ≡ [] ∷ segment db ∷ segment id ∷ [] = parts-path db (segment id) ∙ ap (λ (ps : List (List ℕ)). [] ∷ segment db ∷ ps) (one_part id) in
     let text : id_text_in path ≡ text_if (is_utf8 id) id =
     id_of_parts (part_at 3 path) path ∙ ap (λ (ps : List (List ℕ)). id_by_parts (slice_get ps 3) ps) parts ∙ decoded-segment id small in
@@ -187,16 +187,16 @@ sifted test None named e = absurd cc
 sifted test (Some t) named e = ap Some (text_was (test t) t named e)
 
 -- it is the document of the id that is named
-leads_to : (db id named : List ℕ) → AreBytes id → document_id_in (path_of db (document_segments id)) ≡ Some named → id ≡ named
+leads_to : (db id named : List ℕ) → AreBytes id → document_id_in (page_path db (document_segments id)) ≡ Some named → id ≡ named
 leads_to db id named small e =
-    let path = path_of db (document_segments id) in
+    let path = page_path db (document_segments id) in
     let first = sifted (λ t. not (is_local_id t)) (named_id_in path) named e in
     let second = sifted is_document_id (id_text_in path) named first in
     text_there db id named (starts_with nat_eq id (codes "_design/")) small refl second
 
 -- ---- the call
 
-abbrev with_histories : Asked → DocumentQuery
+abbrev with_histories : RequestedRevisions → DocumentQuery
 with_histories asked = record { asked = asked; revs = true }
 
 record AsksOpened (m : Message) (ts : List (List ℕ)) : Type 0 where
@@ -209,14 +209,14 @@ record AsksOpened (m : Message) (ts : List (List ℕ)) : Type 0 where
 no_view : (m : Message) (ts : List (List ℕ)) → AsksOpened m ts → (db : Database) (v : Value) → view_read m db ≡ Ok v → ⊥
 no_view m ts asks db v e =
     next_never (there_or Id (document_id_in m.path))
-    (λ design. next (there_or Id (index_name_in m.path)) (λ index. next (there_or Query (view_query m.query)) (λ keys. found (view_listing keys design index db)))) v
-    (λ design k. next_never (there_or Id (index_name_in m.path)) (λ index. next (there_or Query (view_query m.query)) (λ keys. found (view_listing keys design index db))) v
-    (λ index l. there_never Query (view_query m.query) (λ keys. found (view_listing keys design index db)) v asks.view l) k) e
+    (λ design. and_then (there_or Id (index_name_in_path m.path)) (λ index. and_then (there_or Query (view_query m.query)) (λ keys. refusal_of_read (view_listing keys design index db)))) v
+    (λ design k. next_never (there_or Id (index_name_in_path m.path)) (λ index. and_then (there_or Query (view_query m.query)) (λ keys. refusal_of_read (view_listing keys design index db))) v
+    (λ index l. there_never Query (view_query m.query) (λ keys. refusal_of_read (view_listing keys design index db)) v asks.view l) k) e
 
 no_local : (m : Message) (ts : List (List ℕ)) → AsksOpened m ts → (db : Database) (v : Value) → local_read m db ≡ Ok v → ⊥
 no_local m ts asks db v e =
-    next_never (there_or Id (local_id_in m.path)) (λ id. next (plain m) (λ _. found (local_document id db))) v
-    (λ id k. plain_never m (λ _. found (local_document id db)) v asks.some k) e
+    next_never (there_or Id (local_id_in m.path)) (λ id. and_then (plain m) (λ _. refusal_of_read (local_document id db))) v
+    (λ id k. plain_never m (λ _. refusal_of_read (local_document id db)) v asks.some k) e
 
 abbrev Opened : Contents → Message → Outcome → Type 0
 Opened a m o = WasRead a m (λ name. document_read m) o
@@ -225,7 +225,7 @@ at_page : (page : Page) (caller : auth.Identity) (a : Contents) (m : Message) (t
     → task_of page (Some Get) caller m ≡ Ok task → task_outcome caller a task ≡ Ok o → Opened a m o
 at_page Welcome caller a m ts task o asks e f = absurd (plain_never m (λ _. Ok (told welcome)) task asks.some e)
 at_page AllDatabases caller a m ts task o asks e f =
-    absurd (next_never (administration caller) (λ _. next (plain m) (λ _. Ok listed)) task (λ u k. plain_never m (λ _. Ok listed) task asks.some k) e)
+    absurd (next_never (administration caller) (λ _. and_then (plain m) (λ _. Ok listed)) task (λ u k. plain_never m (λ _. Ok listed) task asks.some k) e)
 at_page DatabasePage caller a m ts task o asks e f =
     absurd (read_never caller a m (λ name. database_read m name) task o (λ name db v k. plain_never m (λ _. Ok (information name db)) v asks.some k) e f)
 at_page Security caller a m ts task o asks e f =
@@ -246,7 +246,7 @@ at_page Document caller a m ts task o asks e f = read_out caller a m (λ name. d
 at_page LocalDocument caller a m ts task o asks e f =
     absurd (read_never caller a m (λ name. local_read m) task o (λ name db v k. no_local m ts asks db v k) e f)
 
-asks_opened : (k : Configuration) (side : Side) (r : Revisions) → AreBytes (canonical (texts_value r.revisions)) → IsLawful (texts_value r.revisions)
+asks_opened : (k : PassConfiguration) (side : Side) (r : Revisions) → AreBytes (canonical (texts_value r.revisions)) → IsLawful (texts_value r.revisions)
     → AsksOpened (request_of k side (call.open_revisions r)) r.revisions
 asks_opened k side r small lawful =
     let list = canonical (texts_value r.revisions) in
@@ -258,7 +258,7 @@ asks_opened k side r small lawful =
       view = ap keys_asked parameters;
       changes = ap changes_asked parameters;
       document = ap asked_of_document parameters
-          ∙ ap (λ (x : Result Value JsonFault). option_map with_histories (option_map revisions (revisions_read x))) back;
+          ∙ ap (λ (x : Result Value JsonFault). option_map with_histories (option_map revisions (option_and_then (λ v. revisions_listed v) (value_read x)))) back;
     }
 
 record WasAsked (o : Option (List Revision)) (query : DocumentQuery) : Type 0 where
@@ -277,14 +277,14 @@ opened_by c a k side r small id_small list_small lawful ok =
     let j = judged c a m (omega (arith, ok)) in
     let says = asks_opened k side r list_small lawful in
     let w = at_page j.page j.caller a m r.revisions j.task j.outcome says j.asked j.came in
-    let into : database_of k side ≡ w.name = leads_into (database_of k side) (document_segments r.id) w.name small w.own in
-    let p = went (there_or Id (document_id_in m.path)) (λ id. next (there_or Query (document_query m.query)) (λ query. found (read_by id query.revs query.asked w.db))) w.value w.was in
-    let l = went (there_or Query (document_query m.query)) (λ query. found (read_by p.first query.revs query.asked w.db)) w.value p.then in
-    let to : r.id ≡ p.first = leads_to (database_of k side) r.id p.first id_small (was_named Id (document_id_in m.path) p.first p.was) in
+    let into : database_of_side k side ≡ w.name = leads_into (database_of_side k side) (document_segments r.id) w.name small w.own in
+    let p = went (there_or Id (document_id_in m.path)) (λ id. and_then (there_or Query (document_query m.query)) (λ query. refusal_of_read (read_by id query.revs query.asked w.db))) w.value w.was in
+    let l = went (there_or Query (document_query m.query)) (λ query. refusal_of_read (read_by p.first query.revs query.asked w.db)) w.value p.then in
+    let to : r.id ≡ p.first = leads_to (database_of_side k side) r.id p.first id_small (was_named Id (document_id_in m.path) p.first p.was) in
     let q = was_asked (revisions_listed (texts_value r.revisions)) l.first (sym says.document ∙ was_named Query (document_query m.query) l.first l.was) in
     let value : open_revisions r.id (history_at w.db r.id) (Some q.list) true ≡ w.value =
     ap (λ (id : List ℕ). open_revisions id (history_at w.db id) (Some q.list) true) to
-    ∙ same {A = Value} _ w.value (ap (λ (x : DocumentQuery). found (read_by p.first x.revs x.asked w.db)) (sym q.is) ∙ l.then) in
+    ∙ same {A = Value} _ w.value (ap (λ (x : DocumentQuery). refusal_of_read (read_by p.first x.revs x.asked w.db)) (sym q.is) ∙ l.then) in
     record {
       db = w.db;
       asked = q.list;

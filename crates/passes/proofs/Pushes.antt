@@ -14,37 +14,38 @@ use Rattle.tree.specs.declared.placement.TreeFault.{TreeFault}
 use Rattle.tree.specs.declared.placement.TreeFault.TheVariants.{BadPath}
 use Rattle.tree.proofs.RevisionText.{read_of_text}
 use Rattle.store.specs.Database.{DocumentWrite}
-use Rattle.write.specs.Admission.{replicated_outcome}
-use Rattle.write.specs.Bulk.{DocumentOutcome, Histories, Told, after, all_told, outcome_by_id, outcome_in, outcome_told, outcomes, result_told}
-use Rattle.write.specs.Document.{Ancestry, ancestry_alone, ancestry_by, ancestry_in, body_for, count, fits_id, given_revisions, id_if, id_in, ids_in, is_bulk_id, is_newest, mark_in, member_text, onto, path_of, revision_in, revisions_if, revisions_in, sent_with, start_in, words_in, words_said}
+use Rattle.write.specs.Admission.{given, replicated_outcome}
+use Rattle.write.specs.Bulk.{DocumentOutcome, Histories, Told, after, all_told, document_outcome, outcome_in, outcome_told, outcomes, result_told}
+use Rattle.write.specs.Document.{Ancestry, ancestry_alone, ancestry_by, ancestry_in, body_for, item_count, fits_id, given_revisions, id_in_bulk, id_in, ids_in, is_bulk_id, is_newest, mark_in, member_text, onto, path_of_hashes, given_revision, revisions_if, ancestry_given, sent_with, start_in, words_in, words_said}
 use Rattle.write.specs.Settling.{AreKnownOrRefused, IsKnownIn, IsKnownOrRefused, revision_brought}
 use Rattle.write.specs.Terms.{Terms}
+use Rattle.write.specs.declared.fault.WriteFault.TheVariants.{BadDocument}
 use Rattle.write.specs.declared.planned.Outcome.{Outcome}
 use Rattle.write.specs.declared.planned.Outcome.TheVariants.{Made, Known, Refused}
 use Rattle.write.proofs.Outcomes.{IsReplicated, replicated_accepted}
-use Rattle.api.specs.Refusals.{error_of, reason_of, rule_of, with_rule}
+use Rattle.api.specs.Refusals.{error_of, reason_of, rule_of, members_with_rule}
 use Rattle.node.specs.Bulk.{failure_listed, failures_listed, if_failed}
 use Rattle.node.specs.Edits.{refusal_of_edit}
 use Rattle.repl.specs.Replies.{failure_in, failure_report}
 use Rattle.repl.specs.Shapes.{before, each_in, text_at}
 use Rattle.passes.proofs.Missing.{and_both, and_so, equal_bytes, or_left, or_parts, or_right, same_bytes}
-use Rattle.passes.specs.Settled.{is_document_of, is_entry_of, is_reported, is_sent, is_text}
+use Rattle.passes.specs.Settled.{is_document_of, is_report_entry_of, is_reported, is_sent, is_this_text}
 
 -- ---- the id and the revision that a document names
 
-text_is : (t : List ℕ) (o : Option (List ℕ)) → is_text t o ≡ true → o ≡ Some t
+text_is : (t : List ℕ) (o : Option (List ℕ)) → is_this_text t o ≡ true → o ≡ Some t
 text_is t None e = absurd cc
 text_is t (Some s) e = ap Some (same_bytes s t e)
 
-id_same : (o : Option (List ℕ)) (id named : List ℕ) → o ≡ Some id → option_and_then (λ t. id_if t) o ≡ Some named → named ≡ id
-id_same o id named is e = by (is_bulk_id id) (ap (λ (x : Option (List ℕ)). option_and_then (λ t. id_if t) x) (sym is) ∙ e)
+id_same : (o : Option (List ℕ)) (id named : List ℕ) → o ≡ Some id → option_and_then (λ t. id_in_bulk t) o ≡ Some named → named ≡ id
+id_same o id named is e = by (is_bulk_id id) (ap (λ (x : Option (List ℕ)). option_and_then (λ t. id_in_bulk t) x) (sym is) ∙ e)
   where
     by : (b : Bool) → cond b (Some id) None ≡ Some named → named ≡ id
     by true k = cc
     by false k = absurd cc
 
 -- the revision that `_rev` spells
-rev_read : (m : Option Value) (r : Revision) → IsTrue (is_revision r) → option_and_then (λ w. text_in w) m ≡ Some (text_of r) → revision_in m ≡ Some (Some r)
+rev_read : (m : Option Value) (r : Revision) → IsTrue (is_revision r) → option_and_then (λ w. text_in w) m ≡ Some (text_of r) → given_revision m ≡ Some (Some r)
 rev_read None r good e = absurd cc
 rev_read (Some m) r good e =
     ap (λ (o : Option (List ℕ)). option_and_then (λ t. option_map (λ s. Some s) (revision_read t)) o) e
@@ -77,7 +78,7 @@ rev_said : {A : Type 0} (with_words : Option Revision × Bool → Value → A) (
 rev_said with_words rev same v id r sent good named e =
     let s = said_by with_words rev same (words_in id v) (body_for id v) sent e in
     let words : words_said v ≡ Some s.said = words_if (fits_id id (member_of v (codes "_id"))) (words_said v) s.said s.are in
-    let is : revision_in (member_of v (codes "_rev")) ≡ Some s.said.0 = words_rev (revision_in (member_of v (codes "_rev"))) (mark_in (member_of v (codes "_deleted"))) s.said words in
+    let is : given_revision (member_of v (codes "_rev")) ≡ Some s.said.0 = words_rev (given_revision (member_of v (codes "_rev"))) (mark_in (member_of v (codes "_deleted"))) s.said words in
     s.is ∙ sym (one_of (Some r) s.said.0 (sym (rev_read (member_of v (codes "_rev")) r good named) ∙ is))
   where
     one_of : (a b : Option Revision) → (let x : Option (Option Revision) = Some a in x) ≡ Some b → a ≡ b
@@ -97,19 +98,19 @@ abbrev HasNumber : List Revision → Type 0
 HasNumber [] = ⊤
 HasNumber (q ∷ rest) = q.number ≡ length (q ∷ rest)
 
-path_numbers : (vs : Items) (path : List Revision) → path_of vs ≡ Some path → (length path ≡ count vs) × HasNumber path
+path_numbers : (vs : Items) (path : List Revision) → path_of_hashes vs ≡ Some path → (length path ≡ item_count vs) × HasNumber path
 path_numbers no_items path e = let k : (let x : List Revision = [] in x) ≡ path = cc in subst (λ (p : List Revision). (length p ≡ 0) × HasNumber p) k (refl, tt)
-path_numbers (item v vs) path e = by (option_and_then (λ hash. revision_of (suc (count vs)) hash) (text_in v)) refl (path_of vs) (λ (p : List Revision) (is : path_of vs ≡ Some p). path_numbers vs p is) refl e
+path_numbers (item v vs) path e = by (option_and_then (λ hash. revision_of (suc (item_count vs)) hash) (text_in v)) refl (path_of_hashes vs) (λ (p : List Revision) (is : path_of_hashes vs ≡ Some p). path_numbers vs p is) refl e
   where
-    by : (o : Option Revision) → option_and_then (λ hash. revision_of (suc (count vs)) hash) (text_in v) ≡ o → (rest : Option (List Revision))
-        → ((p : List Revision) → path_of vs ≡ Some p → (length p ≡ count vs) × HasNumber p) → path_of vs ≡ rest → onto o rest ≡ Some path → (length path ≡ suc (count vs)) × HasNumber path
+    by : (o : Option Revision) → option_and_then (λ hash. revision_of (suc (item_count vs)) hash) (text_in v) ≡ o → (rest : Option (List Revision))
+        → ((p : List Revision) → path_of_hashes vs ≡ Some p → (length p ≡ item_count vs) × HasNumber p) → path_of_hashes vs ≡ rest → onto o rest ≡ Some path → (length path ≡ suc (item_count vs)) × HasNumber path
     by None is rest onward rest_is k = absurd cc
     by (Some q) is None onward rest_is k = absurd cc
     by (Some q) is (Some p) onward rest_is k =
         let same : q ∷ p ≡ path = cc in
-        let long : length p ≡ count vs = (onward p rest_is).0 in
-        subst (λ (x : List Revision). (length x ≡ suc (count vs)) × HasNumber x) same
-        (omega (arith, long), omega (arith, long, rev_number (suc (count vs)) (text_in v) q is))
+        let long : length p ≡ item_count vs = (onward p rest_is).0 in
+        subst (λ (x : List Revision). (length x ≡ suc (item_count vs)) × HasNumber x) same
+        (omega (arith, long), omega (arith, long, rev_number (suc (item_count vs)) (text_in v) q is))
 
 newest_is : (start : ℕ) (path : List Revision) (r : Revision) → HasNumber path → (start == length path) ≡ true → is_newest start path (Some r) ≡ true → head path ≡ Some r
 newest_is start [] r number whole e = absurd cc
@@ -120,7 +121,7 @@ newest_is start (q ∷ rest) r number whole e =
     let hashes : q.hash ≡ r.hash = sym (same_bytes r.hash q.hash k.1) in
     ap Some (λ i. let x : Revision = record { number = numbers i; hash = hashes i } in x)
 
-ids_items : (o : Option Items) (path : List Revision) → option_and_then (λ vs. path_of vs) o ≡ Some path → HasNumber path
+ids_items : (o : Option Items) (path : List Revision) → option_and_then (λ vs. path_of_hashes vs) o ≡ Some path → HasNumber path
 ids_items None path e = absurd cc
 ids_items (Some vs) path e = (path_numbers vs path e).1
 
@@ -133,9 +134,9 @@ revisions_number : (b : Bool) (m : Value) (said : Ancestry) → revisions_if b m
 revisions_number true m said e = ids_items (option_and_then (λ x. items_in x) (member_of m (codes "ids"))) said.path (said_path (start_in m) (ids_in m) said e)
 revisions_number false m said e = absurd cc
 
-given_number : (m : Option Value) (said : Ancestry) → option_map revisions_in m ≡ Some (Some said) → HasNumber said.path
+given_number : (m : Option Value) (said : Ancestry) → option_map ancestry_given m ≡ Some (Some said) → HasNumber said.path
 given_number None said e = absurd cc
-given_number (Some m) said e = let k : revisions_in m ≡ Some said = cc in revisions_number _ m said k
+given_number (Some m) said e = let k : ancestry_given m ≡ Some said = cc in revisions_number _ m said k
 
 newest_said : (b : Bool) (said ancestry : Ancestry) → cond b (Some said) None ≡ Some ancestry → (b ≡ true) × (said ≡ ancestry)
 newest_said true said ancestry e = (refl, cc)
@@ -196,7 +197,7 @@ fit_result terms histories id v (Err fault) named e = tt
 fit_result terms histories id v (Ok w) named e =
     record { id = id; named = named; brings = fit_brings terms id (histories id) v w (replicated_accepted terms id (histories id) v w e) }
 
-fit_one : (terms : Terms) (histories : Histories) (v : Value) (id : Option (List ℕ)) → id_in v ≡ id → IsFitOrRefused v (outcome_by_id terms false histories v id)
+fit_one : (terms : Terms) (histories : Histories) (v : Value) (id : Option (List ℕ)) → id_in v ≡ id → IsFitOrRefused v (given BadDocument id (λ k. document_outcome terms false k (histories k) v))
 fit_one terms histories v None named = tt
 fit_one terms histories v (Some id) named = fit_result terms histories id v (replicated_outcome terms id (histories id) v) named refl
 
@@ -209,7 +210,7 @@ all_fit terms (v ∷ vs) histories =
 -- a document that was accepted is known by the id and the revision that it names
 known_one : (h : Histories) (v : Value) (id : List ℕ) (r : Revision) → IsTrue (is_revision r) → is_document_of id r v ≡ true → IsFit v → IsKnownIn h v → is_known (h id) r ≡ true
 known_one h v id r good is fit k =
-    let named = and_both (is_text id (text_at (codes "_id") v)) (is_text (text_of r) (text_at (codes "_rev") v)) is in
+    let named = and_both (is_this_text id (text_at (codes "_id") v)) (is_this_text (text_of r) (text_at (codes "_rev") v)) is in
     let id_is : text_at (codes "_id") v ≡ Some id = text_is id (text_at (codes "_id") v) named.0 in
     let rev_is : text_at (codes "_rev") v ≡ Some (text_of r) = text_is (text_of r) (text_at (codes "_rev") v) named.1 in
     let fit_id : fit.id ≡ id = id_same (member_text (codes "_id") v) id fit.id id_is fit.named in
@@ -222,12 +223,12 @@ known_one h v id r good is fit k =
 -- ---- what the reply says of one that was refused
 
 read_failure : (rule : Option (List ℕ)) (reason error id rev : List ℕ)
-    → failure_in (object (put (codes "rev") (text rev) (put (codes "id") (text id) (with_rule rule (put (codes "reason") (text reason) (put (codes "error") (text error) no_members))))))
+    → failure_in (object (put (codes "rev") (text rev) (put (codes "id") (text id) (members_with_rule rule (put (codes "reason") (text reason) (put (codes "error") (text error) no_members))))))
     ≡ Some (failure_report error (Some id) reason (Some rev) rule)
 read_failure None reason error id rev = refl
 read_failure (Some rule) reason error id rev = refl
 
-entry_of : (rule : Option (List ℕ)) (reason error id : List ℕ) (r : Revision) → is_entry_of id r (failure_report error (Some id) reason (Some (text_of r)) rule) ≡ true
+entry_of : (rule : Option (List ℕ)) (reason error id : List ℕ) (r : Revision) → is_report_entry_of id r (failure_report error (Some id) reason (Some (text_of r)) rule) ≡ true
 entry_of None reason error id r = and_so (bytes_eq id id) (bytes_eq (text_of r) (text_of r)) (equal_bytes id id refl) (equal_bytes (text_of r) (text_of r) refl)
 entry_of (Some rule) reason error id r = and_so (bytes_eq id id) (bytes_eq (text_of r) (text_of r)) (equal_bytes id id refl) (equal_bytes (text_of r) (text_of r) refl)
 
@@ -264,7 +265,7 @@ element_of caller told (Refused fault) rest failures e =
     record {
       others = p.others;
       read = p.rest_is;
-      more = λ id r k. ap (is_reported id r) p.are ∙ or_right (is_entry_of id r p.one) (is_reported id r p.others) k;
+      more = λ id r k. ap (is_reported id r) p.are ∙ or_right (is_report_entry_of id r p.one) (is_reported id r p.others) k;
       own = λ refused id r id_is rev_is.
           let report = failure_report (error_of refusal) (Some id) (reason_of refusal) (Some (text_of r)) (rule_of refusal) in
           let says : failure_in (failure_listed caller told.id told.rev fault) ≡ Some report =
@@ -272,7 +273,7 @@ element_of caller told (Refused fault) rest failures e =
           let both : Some p.one ≡ Some report = sym p.first_is ∙ says in
           let same : p.one ≡ report = cc in
           ap (is_reported id r) p.are
-          ∙ or_left (is_entry_of id r p.one) (is_reported id r p.others) (ap (is_entry_of id r) same ∙ entry_of (rule_of refusal) (reason_of refusal) (error_of refusal) id r);
+          ∙ or_left (is_report_entry_of id r p.one) (is_reported id r p.others) (ap (is_report_entry_of id r) same ∙ entry_of (rule_of refusal) (reason_of refusal) (error_of refusal) id r);
     }
 
 -- ---- all of them
@@ -281,7 +282,7 @@ first_settled : (h : Histories) (v : Value) (o : DocumentOutcome) (rest failures
     → Element (result_told v o) (outcome_told o) rest failures → IsTrue (is_revision r) → is_document_of id r v ≡ true → (is_known (h id) r || is_reported id r failures) ≡ true
 first_settled h v (Ok w) rest failures id r known fit element good is = or_left (is_known (h id) r) (is_reported id r failures) (known_one h v id r good is fit known)
 first_settled h v (Err fault) rest failures id r known fit element good is =
-    let named = and_both (is_text id (text_at (codes "_id") v)) (is_text (text_of r) (text_at (codes "_rev") v)) is in
+    let named = and_both (is_this_text id (text_at (codes "_id") v)) (is_this_text (text_of r) (text_at (codes "_rev") v)) is in
     or_right (is_known (h id) r) (is_reported id r failures)
     (element.own tt id r (text_is id (text_at (codes "_id") v) named.0) (text_is (text_of r) (text_at (codes "_rev") v) named.1))
 

@@ -13,25 +13,25 @@ use Rattle.store.specs.Contents.{Contents}
 use Rattle.store.specs.Database.{Database, history_at}
 use Rattle.write.specs.Bulk.{DocumentOutcome, outcomes}
 use Rattle.write.specs.Terms.{terms_in}
-use Rattle.api.specs.Asking.{body_of, plain}
-use Rattle.api.specs.Bulk.{Bulk, bulk_in, elements}
-use Rattle.api.specs.Refusals.{next, there_or}
+use Rattle.api.specs.Asking.{json_body, plain}
+use Rattle.api.specs.Bulk.{Bulk, bulk_in, elements_of_items}
+use Rattle.api.specs.Refusals.{and_then, there_or}
 use Rattle.api.specs.declared.method.RequestMethod.TheVariants.{Post}
 use Rattle.api.specs.declared.page.Page.{Page}
 use Rattle.api.specs.declared.page.Page.TheVariants.{Welcome, AllDatabases, Database as DatabasePage, Security, BulkDocuments, AllDocuments, Changes, Differences, Find, Index, View, Document, LocalDocument}
 use Rattle.api.specs.declared.refusal.Refusal.TheVariants.{Body, Method}
-use Rattle.node.specs.Answer.{Outcome, Task, outcome_in, task_of, task_outcome}
+use Rattle.node.specs.Answer.{Outcome, Task, outcome_in_database, task_of, task_outcome}
 use Rattle.node.specs.Work.{Done}
 use Rattle.node.specs.Works.{bulk_done, bulk_written, difference_list, document_finds, documents_written, index_asked_in, index_done, index_written}
 use Rattle.node.proofs.Tasks.{named as was_named, same, went}
 use Rattle.repl.specs.Calls.{documents_value, push_documents, request_of}
-use Rattle.repl.specs.Configuration.{database_of}
+use Rattle.repl.specs.Configuration.{database_of_side}
 use Rattle.passes.proofs.Comparing.{value_was}
 use Rattle.passes.proofs.Judged.{Worked, judged, never, read_out, work_out}
 use Rattle.passes.proofs.Spellings.{leads_into}
 use Rattle.passes.specs.Spelled.{DocumentsArePushed, replica_bulk}
 
-elements_back : (vs : List Value) → elements (items_of vs) ≡ vs
+elements_back : (vs : List Value) → elements_of_items (items_of vs) ≡ vs
 elements_back [] = refl
 elements_back (v ∷ vs) = ap (λ (xs : List Value). v ∷ xs) (elements_back vs)
 
@@ -44,8 +44,8 @@ index_status caller id name (Err fault) d e = absurd cc
 
 index_written_status : (caller : auth.Identity) (m : Message) (name : List ℕ) (db : Database) (d : Done) → index_written caller m name db ≡ Ok d → d.status ≡ 200
 index_written_status caller m name db d e =
-    let k = went (plain m) (λ _. next (body_of m) (λ value. next (there_or Body (index_in value)) (λ asked. index_asked_in caller name db asked))) d e in
-    let l = went (body_of m) (λ value. next (there_or Body (index_in value)) (λ asked. index_asked_in caller name db asked)) d k.then in
+    let k = went (plain m) (λ _. and_then (json_body m) (λ value. and_then (there_or Body (index_in value)) (λ asked. index_asked_in caller name db asked))) d e in
+    let l = went (json_body m) (λ value. and_then (there_or Body (index_in value)) (λ asked. index_asked_in caller name db asked)) d k.then in
     let b = went (there_or Body (index_in l.first)) (λ asked. index_asked_in caller name db asked) d l.then in
     index_status caller b.first.design b.first.name _ d b.then
 
@@ -78,9 +78,9 @@ pushed_by c a k side documents small lawful ok =
     let j = judged c a m (omega (arith, ok)) in
     let caller = j.caller in
     let w = at_page j.page caller a m j.task j.outcome (ap (λ (x : Outcome). x.status) (sym j.told) ∙ ok) j.asked j.came in
-    let into : database_of k side ≡ w.name = leads_into (database_of k side) (codes "_bulk_docs") w.name small w.own in
-    let p = went (plain m) (λ _. next (body_of m) (λ value. next (there_or Body (bulk_in value)) (λ bulk. bulk_written caller bulk w.name w.db))) w.done w.was in
-    let l = went (body_of m) (λ value. next (there_or Body (bulk_in value)) (λ bulk. bulk_written caller bulk w.name w.db)) w.done p.then in
+    let into : database_of_side k side ≡ w.name = leads_into (database_of_side k side) (codes "_bulk_docs") w.name small w.own in
+    let p = went (plain m) (λ _. and_then (json_body m) (λ value. and_then (there_or Body (bulk_in value)) (λ bulk. bulk_written caller bulk w.name w.db))) w.done w.was in
+    let l = went (json_body m) (λ value. and_then (there_or Body (bulk_in value)) (λ bulk. bulk_written caller bulk w.name w.db)) w.done p.then in
     let b = went (there_or Body (bulk_in l.first)) (λ bulk. bulk_written caller bulk w.name w.db) w.done l.then in
     let body : documents_value documents ≡ l.first = what_was_read (documents_value documents) l.first lawful (value_was (reading m.body) l.first l.was) in
     let bulk : replica_bulk documents ≡ b.first = (let e : Some (replica_bulk documents) ≡ Some b.first = sym (asked_back documents) ∙ ap bulk_in body ∙ was_named Body (bulk_in l.first) b.first b.was in cc) in
@@ -91,6 +91,6 @@ pushed_by c a k side documents small lawful ok =
       caller = caller;
       asks = j.asks;
       there = ap (get a) into ∙ w.there;
-      is = j.told ∙ w.is ∙ ap (outcome_in w.name) (sym done)
-          ∙ ap (λ (n : List ℕ). outcome_in n (bulk_done caller (replica_bulk documents) (outcomes (terms_in caller n w.db) false (history_at w.db) documents))) (sym into);
+      is = j.told ∙ w.is ∙ ap (outcome_in_database w.name) (sym done)
+          ∙ ap (λ (n : List ℕ). outcome_in_database n (bulk_done caller (replica_bulk documents) (outcomes (terms_in caller n w.db) false (history_at w.db) documents))) (sym into);
     }

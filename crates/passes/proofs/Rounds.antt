@@ -9,9 +9,9 @@ use Rattle.tree.specs.History.{is_known, is_leaf}
 use Rattle.store.specs.Database.{Database, Document, IsLater, history_at, history_in, sequence_at, sequence_in}
 use Rattle.store.proofs.Laters.{later_still}
 use Rattle.repl.specs.Calls.{Revisions}
-use Rattle.repl.specs.Configuration.{Configuration}
-use Rattle.repl.specs.Passes.{Pass, answered_in, answered_of, fills, first_of_pending, is_written, lost_of, pass_after, phase_after_list, phase_after_loss, phase_after_round, phase_with, with_changes, with_differences, with_failures, with_opened, with_source, with_source_reread, with_source_written, with_target, with_target_reread, with_target_written}
-use Rattle.repl.specs.Replies.{Changes, Opened, Stored, changes_listed, checkpoint_read, checkpoint_written, differences_read, documents_of, documents_pushed, missing_reports, revisions_opened}
+use Rattle.repl.specs.Configuration.{PassConfiguration}
+use Rattle.repl.specs.Passes.{Pass, answered_in, answered_of, fills, first_of_pending, is_written, lost_of, pass_after, phase_after_list, phase_after_loss, phase_after_round, phase_with, with_changes, with_lacking, with_failures, with_opened, with_source, with_source_reread, with_source_written, with_target, with_target_reread, with_target_written}
+use Rattle.repl.specs.Replies.{Changes, Opened, Stored, changes_listed, checkpoint_read, checkpoint_written, differences_read, documents_of_opened, documents_pushed, missing_reports, revisions_opened}
 use Rattle.repl.specs.Turns.{Turn, after_turn, answered, lost}
 use Rattle.repl.specs.declared.phase.Phase.{Phase}
 use Rattle.repl.specs.declared.phase.Phase.TheVariants.{ReadSource, ReadTarget, ListChanges, Compare, Open, Push, WriteSource, WriteTarget, RereadSource, RereadTarget, Done, Stopped}
@@ -19,7 +19,7 @@ use Rattle.repl.specs.declared.why.Why.{Why}
 use Rattle.repl.proofs.LossLemmas.{lost_by}
 use Rattle.passes.proofs.Missing.{or_left, or_parts, or_right}
 use Rattle.passes.specs.Owed.{Covers, DoneOwesNothing, Event, Follows, Goes, IsTruth, Names, RoundsCover, Scene, Went, has_covered, listed_after, others, turn}
-use Rattle.passes.specs.Settled.{is_among, is_document_of, is_entry_of, is_reported, is_sent, is_settled}
+use Rattle.passes.specs.Settled.{is_among, is_document_of, is_report_entry_of, is_reported, is_sent, is_settled}
 
 -- ---- truth values
 
@@ -81,10 +81,10 @@ Invariant (Stopped why) source target listed p = ⊤
 -- ---- settled stays settled
 
 reported_more : (id : List ℕ) (r : Revision) (xs ys : List Value) → is_reported id r xs ≡ true → is_reported id r (xs ++ ys) ≡ true
-reported_more id r xs ys e = list_any-append (λ v. is_entry_of id r v) xs ys ∙ or_left (is_reported id r xs) (is_reported id r ys) e
+reported_more id r xs ys e = list_any-append (λ v. is_report_entry_of id r v) xs ys ∙ or_left (is_reported id r xs) (is_reported id r ys) e
 
 reported_new : (id : List ℕ) (r : Revision) (xs ys : List Value) → is_reported id r ys ≡ true → is_reported id r (xs ++ ys) ≡ true
-reported_new id r xs ys e = list_any-append (λ v. is_entry_of id r v) xs ys ∙ or_right (is_reported id r xs) (is_reported id r ys) e
+reported_new id r xs ys e = list_any-append (λ v. is_report_entry_of id r v) xs ys ∙ or_right (is_reported id r xs) (is_reported id r ys) e
 
 known_later : (t t' : Database) (id : List ℕ) (r : Revision) → IsLater t t' → is_known (history_at t id) r ≡ true → is_known (history_at t' id) r ≡ true
 known_later t t' id r lt e = true_of (is_known (history_at t' id) r) (lt.known id r (is_true (is_known (history_at t id) r) e))
@@ -240,10 +240,10 @@ from_list s s' t t' listed p status body (Ok c) e sized ls lt truth h = by c.lea
     by (l ∷ ls) f h = (f, h)
 
 from_compare : (s s' t t' listed : Database) (p : Pass) (status : ℕ) (body : List ℕ) (r : Result (List Revisions) Why) → differences_read p.leaves status body ≡ r → IsLater s s' → IsLater t t'
-    → IsTruth Compare p s t' status body → Invariant Compare s t listed p → Invariant (pass_after with_differences p r).phase s' t' listed (pass_after with_differences p r)
+    → IsTruth Compare p s t' status body → Invariant Compare s t listed p → Invariant (pass_after with_lacking p r).phase s' t' listed (pass_after with_lacking p r)
 from_compare s s' t t' listed p status body (Err why) e ls lt truth h = tt
 from_compare s s' t t' listed p status body (Ok missing) e ls lt truth h =
-    goes_on missing p.documents s' t' listed (with_differences p missing) (
+    goes_on missing p.documents s' t' listed (with_lacking p missing) (
       h.0,
       moves s s' t t' listed p.start p.last_seq p.refused p.refused (λ id r. is_among id r p.leaves) (opening missing p.documents) ls (wider_same t t' p.refused lt)
           (λ id r good k.
@@ -260,25 +260,25 @@ sent_new : (id : List ℕ) (r : Revision) (xs ys : List Value) → is_sent id r 
 sent_new id r xs ys e = list_any-append (λ v. is_document_of id r v) xs ys ∙ or_right (is_sent id r xs) (is_sent id r ys) e
 
 opened_next : (rows : List Revisions) (documents : List Value) (opened : List Opened) (t' : Database) (refused : List Value) (id : List ℕ) (r : Revision)
-    → (is_among id r (first_of_pending rows ∷ []) ≡ true → (is_sent id r (documents_of opened) || is_reported id r (missing_reports (first_of_pending rows).id opened)) ≡ true)
+    → (is_among id r (first_of_pending rows ∷ []) ≡ true → (is_sent id r (documents_of_opened opened) || is_reported id r (missing_reports (first_of_pending rows).id opened)) ≡ true)
     → opening rows documents id r ≡ true
-    → (is_settled t' (refused ++ missing_reports (first_of_pending rows).id opened) id r || opening (drop 1 rows) (documents ++ documents_of opened) id r) ≡ true
+    → (is_settled t' (refused ++ missing_reports (first_of_pending rows).id opened) id r || opening (drop 1 rows) (documents ++ documents_of_opened opened) id r) ≡ true
 opened_next [] documents opened t' refused id r truth k =
-    or_right (is_settled t' (refused ++ missing_reports [] opened) id r) (is_sent id r (documents ++ documents_of opened)) (sent_more id r documents (documents_of opened) k)
+    or_right (is_settled t' (refused ++ missing_reports [] opened) id r) (is_sent id r (documents ++ documents_of_opened opened)) (sent_more id r documents (documents_of_opened opened) k)
 opened_next (row ∷ rows) documents opened t' refused id r truth k =
     let reports = missing_reports row.id opened in
-    let all = documents ++ documents_of opened in
+    let all = documents ++ documents_of_opened opened in
     let settled = is_settled t' (refused ++ reports) id r in
     let first = is_among id r (row ∷ []) in
     ⊎_elim
     (λ among. ⊎_elim
     (λ here. ⊎_elim
-    (λ sent. or_right settled (opening rows all id r) (or_right (is_among id r rows) (is_sent id r all) (sent_new id r documents (documents_of opened) sent)))
+    (λ sent. or_right settled (opening rows all id r) (or_right (is_among id r rows) (is_sent id r all) (sent_new id r documents (documents_of_opened opened) sent)))
     (λ told. or_left settled (opening rows all id r) (or_right (is_known (history_at t' id) r) (is_reported id r (refused ++ reports)) (reported_new id r refused reports told)))
-    (or_parts (is_sent id r (documents_of opened)) (is_reported id r reports) (truth (or_left _ false here))))
+    (or_parts (is_sent id r (documents_of_opened opened)) (is_reported id r reports) (truth (or_left _ false here))))
     (λ later. or_right settled (opening rows all id r) (or_left (is_among id r rows) (is_sent id r all) later))
     (or_parts _ (is_among id r rows) among))
-    (λ sent. or_right settled (opening rows all id r) (or_right (is_among id r rows) (is_sent id r all) (sent_more id r documents (documents_of opened) sent)))
+    (λ sent. or_right settled (opening rows all id r) (or_right (is_among id r rows) (is_sent id r all) (sent_more id r documents (documents_of_opened opened) sent)))
     (or_parts (is_among id r (row ∷ rows)) (is_sent id r documents) k)
 
 from_open : (s s' t t' listed : Database) (p : Pass) (status : ℕ) (body : List ℕ) (r : Result (List Opened) Why) → revisions_opened status body ≡ r → IsLater s s' → IsLater t t'
@@ -286,9 +286,9 @@ from_open : (s s' t t' listed : Database) (p : Pass) (status : ℕ) (body : List
 from_open s s' t t' listed p status body (Err why) e ls lt truth h = tt
 from_open s s' t t' listed p status body (Ok opened) e ls lt truth h =
     let reports = missing_reports (first_of_pending p.pending).id opened in
-    goes_on (drop 1 p.pending) (p.documents ++ documents_of opened) s' t' listed (with_opened p opened) (
+    goes_on (drop 1 p.pending) (p.documents ++ documents_of_opened opened) s' t' listed (with_opened p opened) (
       h.0,
-      moves s s' t t' listed p.start p.last_seq p.refused (p.refused ++ reports) (opening p.pending p.documents) (opening (drop 1 p.pending) (p.documents ++ documents_of opened)) ls
+      moves s s' t t' listed p.start p.last_seq p.refused (p.refused ++ reports) (opening p.pending p.documents) (opening (drop 1 p.pending) (p.documents ++ documents_of_opened opened)) ls
           (wider_more t t' p.refused reports lt) (λ id r good k. opened_next p.pending p.documents opened t' p.refused id r (truth opened e id r good) k) h.1,
     )
 
@@ -390,7 +390,7 @@ answered_configured : (f : Phase) (p : Pass) (status : ℕ) (body : List ℕ) �
 answered_configured ReadSource p status body = same_configuration with_source p (checkpoint_read status body) (λ a. refl)
 answered_configured ReadTarget p status body = same_configuration with_target p (checkpoint_read status body) (λ a. refl)
 answered_configured ListChanges p status body = same_configuration with_changes p (changes_listed status body) (λ a. refl)
-answered_configured Compare p status body = same_configuration with_differences p (differences_read p.leaves status body) (λ a. refl)
+answered_configured Compare p status body = same_configuration with_lacking p (differences_read p.leaves status body) (λ a. refl)
 answered_configured Open p status body = same_configuration with_opened p (revisions_opened status body) (λ a. refl)
 answered_configured Push p status body = same_configuration with_failures p (documents_pushed status body) (λ a. refl)
 answered_configured WriteSource p status body = same_configuration with_source_written p (checkpoint_written status body) (λ a. refl)
@@ -414,7 +414,7 @@ holding : (s t : Database) (a b : Database) (p q : Pass) → q ≡ p → b ≡ a
 holding s t a b p q e f h = subst (λ (x : Pass). Invariant x.phase s t b x) (sym e) (subst (λ (x : Database). Invariant p.phase s t x p) (sym f) h)
 
 stays_sized : (p q : Pass) → q.configuration ≡ p.configuration → IfSome p.configuration.batch (λ size. 1 ≤ size) → IfSome q.configuration.batch (λ size. 1 ≤ size)
-stays_sized p q e sized = subst (λ (c : Configuration). IfSome c.batch (λ size. 1 ≤ size)) (sym e) sized
+stays_sized p q e sized = subst (λ (c : PassConfiguration). IfSome c.batch (λ size. 1 ≤ size)) (sym e) sized
 
 lost_listed : (f : Phase) (s a : Database) → listed_after f s a lost ≡ a
 lost_listed ReadSource s a = refl
@@ -453,7 +453,7 @@ goes_holds : (es : List Event) (old new : Scene) → Goes es old new → Holds o
 goes_holds [] old new is h = subst Holds (sym is) h
 goes_holds (e ∷ es) old new (between, here, later) h = goes_holds es between new later (follows_holds e old between here h)
 
-went_holds : (c : Configuration) (es : List Event) (now : Scene) → Went c es now → Holds now
+went_holds : (c : PassConfiguration) (es : List Event) (now : Scene) → Went c es now → Holds now
 went_holds c es now w = goes_holds es w.first now w.goes (record {
   sized = subst (λ (p : Pass). IfSome p.configuration.batch (λ size. 1 ≤ size)) (sym w.begins) w.batch;
   invariant = subst (λ (p : Pass). Invariant p.phase w.first.source w.first.target w.first.listed p) (sym w.begins) tt;

@@ -20,10 +20,10 @@ use Rattle.percent_encoding.specs.AsciiSet.{should_percent_encode}
 use Rattle.percent_encoding.proofs.PercentLemmas.{All-percent_encode}
 use Rattle.store.specs.DatabaseName.{is_database_name}
 use Rattle.couch_json.specs.Range.{greatest_count}
-use Rattle.api.specs.Listings.{count_in, is_count_text}
+use Rattle.api.specs.Listings.{count_in_text, is_count_text}
 use Rattle.api.specs.Paths.{database_name_in, decoded_text, name_if, part_at, parts_of, slash, text_if}
 use Rattle.api.specs.Queries.{form_text, parameter_of, parameters_in}
-use Rattle.repl.specs.Calls.{changes_query, limit_part, path_of}
+use Rattle.repl.specs.Calls.{changes_call_query, limit_part, page_path}
 use Rattle.repl.specs.Spelling.{reserved_bytes, segment}
 use Rattle.repl.proofs.Segments.{percent_decode-segment}
 
@@ -41,9 +41,9 @@ pub slashless : (name : List ℕ) → All (λ b. (b == 47) ≡ false) (segment n
 slashless name =
     All-percent_encode (λ b. (b == 47) ≡ false) reserved_bytes name (λ b kept. not_slash b (b == 47) refl kept) (λ b escape. ne_eqb b 47 (λ e. grind arith))
 
-pub parts-path : (db page : List ℕ) → parts_of (path_of db page) ≡ [] ∷ segment db ∷ parts_of page
+pub parts-path : (db page : List ℕ) → parts_of (page_path db page) ≡ [] ∷ segment db ∷ parts_of page
 parts-path db page =
-    let joined : path_of db page ≡ 47 ∷ (segment db ++ 47 ∷ page) = ap (λ (x : List ℕ). 47 ∷ x) (append_assoc (segment db) (47 ∷ []) page) in
+    let joined : page_path db page ≡ 47 ∷ (segment db ++ 47 ∷ page) = ap (λ (x : List ℕ). 47 ∷ x) (append_assoc (segment db) (47 ∷ []) page) in
     ap parts_of joined ∙ ap (λ (ps : List (List ℕ)). [] ∷ ps) (slice_split_at (λ b. b == slash) (segment db) 47 page (slashless db) refl)
 
 pub text_was : (good : Bool) (text name : List ℕ) → text_if good text ≡ Some name → text ≡ name
@@ -55,10 +55,10 @@ name_was true text name e = text_was (is_database_name text) text name e
 name_was false text name e = absurd cc
 
 -- the path of a call leads into the database that it names
-pub leads_into : (db page name : List ℕ) → All (λ b. b < 256) db → database_name_in (path_of db page) ≡ Some name → db ≡ name
+pub leads_into : (db page name : List ℕ) → All (λ b. b < 256) db → database_name_in (page_path db page) ≡ Some name → db ≡ name
 leads_into db page name small e =
-    let at : part_at 1 (path_of db page) ≡ Some (segment db) = ap (λ (ps : List (List ℕ)). slice_get ps 1) (parts-path db page) in
-    let is : database_name_in (path_of db page) ≡ option_and_then (λ t. name_if t) (text_if (is_utf8 db) db) =
+    let at : part_at 1 (page_path db page) ≡ Some (segment db) = ap (λ (ps : List (List ℕ)). slice_get ps 1) (parts-path db page) in
+    let is : database_name_in (page_path db page) ≡ option_and_then (λ t. name_if t) (text_if (is_utf8 db) db) =
     ap (λ (o : Option (List ℕ)). option_and_then (λ t. name_if t) (option_and_then (λ part. decoded_text part) o)) at
     ∙ ap (λ (t : List ℕ). option_and_then (λ u. name_if u) (text_if (is_utf8 t) t)) (percent_decode-segment db small) in
     name_was (is_utf8 db) db name (sym is ∙ e)
@@ -110,7 +110,7 @@ are_digits (c ∷ cs) d =
     and_from (is_ascii_digit c) (list_all is_ascii_digit cs) (and_from _ _ (le-leb 48 c (omega (arith, k))) (le-leb c 57 (omega (arith, k)))) (are_digits cs d.1)
 
 -- a count is read as it was written
-pub count-decimal : (n : ℕ) → n ≤ greatest_count → count_in (decimal n) ≡ Some n
+pub count-decimal : (n : ℕ) → n ≤ greatest_count → count_in_text (decimal n) ≡ Some n
 count-decimal n few =
     let small : n < 2 ^ 64 = omega arith in
     let k = decimal_is_IsNumeral n small in
@@ -172,10 +172,10 @@ limited (Some n) few =
     ∙ (λ i. style_pair i ∷ pair i ∷ [])
 
 pub changes-pairs : (since : ℕ) (most : Option ℕ) → since < 2 ^ 64 → IfSome most (λ n. n < 2 ^ 64)
-    → raw_pairs (changes_query since most) ≡ (codes "since", decimal since) ∷ (codes "style", codes "all_docs") ∷ limit_pairs most
+    → raw_pairs (changes_call_query since most) ≡ (codes "since", decimal since) ∷ (codes "style", codes "all_docs") ∷ limit_pairs most
 changes-pairs since most small few =
     let rest = codes "style=all_docs" ++ limit_part most in
-    let is : changes_query since most ≡ front since ++ 38 ∷ rest =
+    let is : changes_call_query since most ≡ front since ++ 38 ∷ rest =
     append_assoc (front since) (codes "&style=all_docs") (limit_part most) in
     let pair : split_pair (front since) ≡ (codes "since", decimal since) = refl in
     let none : All (λ b. b ≢ 38) (front since) = ampless_number (codes "since=") since small refl in
@@ -190,7 +190,7 @@ limit_form (Some n) few =
     (λ i. (name i, value i) ∷ [])
 
 pub changes-parameters : (since : ℕ) (most : Option ℕ) → since < 2 ^ 64 → IfSome most (λ n. n < 2 ^ 64)
-    → parameters_in (Some (changes_query since most)) ≡ (codes "since", decimal since) ∷ (codes "style", codes "all_docs") ∷ limit_pairs most
+    → parameters_in (Some (changes_call_query since most)) ≡ (codes "since", decimal since) ∷ (codes "style", codes "all_docs") ∷ limit_pairs most
 changes-parameters since most small few =
     let digits = (decimal_is_IsNumeral since small).0.1 in
     let a = simple_text (codes "since") (simple_literal (codes "since") refl) in

@@ -37,7 +37,8 @@ use Rattle.passes.specs.Told.{ComparisonsAreTrue, ListingsAreTrue, OpeningsAreTr
 use Rattle.node.specs.Runs.{Steps}
 use Rattle.node.specs.Step.{reply_to}
 use Rattle.repl.specs.Replies as replies
-use Rattle.repl.specs.Replies.{said_at, said_or_reply, value_in, value_read}
+use Rattle.repl.specs.Replies.{said_at, said_or_reply, value_in}
+use Rattle.couch_json.specs.Reading.{value_read}
 use Rattle.repl.specs.declared.why.Why.{Why}
 use Rattle.repl.specs.declared.why.Why.TheVariants.{Status}
 use Rattle.passes.proofs.Listing.{changes_listed_by}
@@ -83,7 +84,7 @@ was_answered c a m r after low (inr (inr failed)) = absurd (omega (arith, low, a
 pub true_listing : ListingsAreTrue
 true_listing c a k since most r after listed small few bound step e =
     let m = request_of k Source (list_changes since most) in
-    let s = said 200 replies.changes_in r.status r.body listed e in
+    let s = said 200 replies.changes_in_reply r.status r.body listed e in
     let told = was_answered c a m r after (omega (arith, s.right)) step in
     let ok : (answer c a m).status ≡ 200 = sym (ap (λ (x : Reply). x.status) told.reply) ∙ s.right in
     let h = changes_listed_by c a k Source since most small few bound ok in
@@ -93,13 +94,13 @@ true_listing c a k since most r after listed small few bound step e =
       db = h.db;
       there = h.there;
       same = told.left ∙ ap (λ (o : Outcome). with_change o.change a) h.is;
-      says = λ has. whole_listing h.db since most listed has (ap replies.changes_in (sym value ∙ read) ∙ s.shaped);
+      says = λ has. whole_listing h.db since most listed has (ap replies.changes_in_reply (sym value ∙ read) ∙ s.shaped);
     }
 
 pub true_comparison : ComparisonsAreTrue
 true_comparison c a k leaves missing r after small distinct lawful step e =
     let m = request_of k Target (compare_revisions leaves) in
-    let s = said 200 (λ v. replies.differences_in leaves v) r.status r.body missing e in
+    let s = said 200 (λ v. replies.differences_in_reply leaves v) r.status r.body missing e in
     let told = was_answered c a m r after (omega (arith, s.right)) step in
     let ok : (answer c a m).status ≡ 200 = sym (ap (λ (x : Reply). x.status) told.reply) ∙ s.right in
     let h = compared_by c a k Target leaves small lawful ok in
@@ -109,7 +110,7 @@ true_comparison c a k leaves missing r after small distinct lawful step e =
       db = h.db;
       there = h.there;
       same = told.left ∙ ap (λ (o : Outcome). with_change o.change a) h.is;
-      says = whole_comparison h.db leaves missing h.asked distinct lawful h.says (ap (λ (v : Value). replies.differences_in leaves v) (sym value ∙ read) ∙ s.shaped);
+      says = whole_comparison h.db leaves missing h.asked distinct lawful h.says (ap (λ (v : Value). replies.differences_in_reply leaves v) (sym value ∙ read) ∙ s.shaped);
     }
 
 pub true_opening : OpeningsAreTrue

@@ -6,10 +6,10 @@ use Rattle.couch_json.specs.Value.{Value}
 use Rattle.tree.specs.History.{is_known, is_leaf}
 use Rattle.tree.specs.Revision.{Revision, is_revision}
 use Rattle.store.specs.Database.{Database, IsLater, history_at, sequence_at}
-use Rattle.repl.specs.Configuration.{Configuration}
+use Rattle.repl.specs.Configuration.{PassConfiguration}
 use Rattle.repl.specs.Passes.{Pass, fills, first_of_pending, first_pass}
 use Rattle.repl.specs.Calls.{Revisions}
-use Rattle.repl.specs.Replies.{Changes, Opened, changes_listed, differences_read, documents_of, documents_pushed, missing_reports, revisions_opened}
+use Rattle.repl.specs.Replies.{Changes, Opened, changes_listed, differences_read, documents_of_opened, documents_pushed, missing_reports, revisions_opened}
 use Rattle.repl.specs.Turns.{Turn, after_turn, answered, lost}
 use Rattle.repl.specs.declared.phase.Phase.{Phase}
 use Rattle.repl.specs.declared.phase.Phase.TheVariants.{ReadSource, ReadTarget, ListChanges, Compare, Open, Push, WriteSource, WriteTarget, RereadSource, RereadTarget, Done, Stopped}
@@ -40,7 +40,7 @@ Compares db asked missing =
 abbrev pub Opens : Revisions → List Opened → Type 0
 Opens asked opened =
     (id : List ℕ) (r : Revision) → IsTrue (is_revision r) → is_among id r (asked ∷ []) ≡ true
-    → (is_sent id r (documents_of opened) || is_reported id r (missing_reports asked.id opened)) ≡ true
+    → (is_sent id r (documents_of_opened opened) || is_reported id r (missing_reports asked.id opened)) ≡ true
 
 -- of the documents that were pushed, each is known afterwards or reported as a failure
 abbrev pub Pushes : Database → List Value → List Value → Type 0
@@ -111,7 +111,7 @@ Goes [] old new = new ≡ old
 Goes (e ∷ es) old new = (between : Scene) × Follows e old between × Goes es between new
 
 -- a pass of this configuration went from its beginning through these events to where it stands now; a batch has one document at least
-pub record Went (c : Configuration) (es : List Event) (now : Scene) : Type 0 where
+pub record Went (c : PassConfiguration) (es : List Event) (now : Scene) : Type 0 where
   pub first : Scene
   pub begins : first.pass ≡ first_pass c
   pub batch : IfSome c.batch (λ size. 1 ≤ size)
@@ -144,13 +144,13 @@ has_covered (Stopped why) = false
 -- a pass that writes its checkpoints, or is done, has settled what it listed in all its rounds: of the source as it was, and as it is now
 abbrev pub RoundsCover : Type 0
 RoundsCover =
-    (c : Configuration) (es : List Event) (now : Scene) → Went c es now → has_covered now.pass.phase ≡ true
+    (c : PassConfiguration) (es : List Event) (now : Scene) → Went c es now → has_covered now.pass.phase ≡ true
     → Covers now.listed now.pass.start_seq now.pass.last_seq now × Covers now.source now.pass.start_seq now.pass.last_seq now
 
 -- A pass that is done owes nothing: each leaf that the source had when it was listed last, of a document whose sequence is above the
 -- start, is settled.
 abbrev pub DoneOwesNothing : Type 0
 DoneOwesNothing =
-    (c : Configuration) (es : List Event) (now : Scene) → Went c es now → now.pass.phase ≡ Done
+    (c : PassConfiguration) (es : List Event) (now : Scene) → Went c es now → now.pass.phase ≡ Done
     → (id : List ℕ) (r : Revision) → IsTrue (is_revision r) → IsTrue (is_leaf (history_at now.listed id) r) → now.pass.start_seq < sequence_at now.listed id
     → is_settled now.target now.pass.refused id r ≡ true

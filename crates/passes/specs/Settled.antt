@@ -14,20 +14,20 @@ abbrev pub is_among : List ℕ → Revision → List Revisions → Bool
 is_among id r rows = list_any (λ l. bytes_eq l.id id && list_any (λ t. bytes_eq t (text_of r)) l.revisions) rows
 
 -- a text was found, and it is this one
-abbrev pub is_text : List ℕ → Option (List ℕ) → Bool
-is_text text None = false
-is_text text (Some found) = bytes_eq found text
+abbrev pub is_this_text : List ℕ → Option (List ℕ) → Bool
+is_this_text text None = false
+is_this_text text (Some found) = bytes_eq found text
 
 -- an entry of a report that is about the revision of the document of this id
-abbrev pub is_entry_of : List ℕ → Revision → Value → Bool
-is_entry_of id r v = is_text id (text_at (codes "id") v) && is_text (text_of r) (text_at (codes "rev") v)
+abbrev pub is_report_entry_of : List ℕ → Revision → Value → Bool
+is_report_entry_of id r v = is_this_text id (text_at (codes "id") v) && is_this_text (text_of r) (text_at (codes "rev") v)
 
 -- the revision is reported
 abbrev pub is_reported : List ℕ → Revision → List Value → Bool
-is_reported id r entries = list_any (λ v. is_entry_of id r v) entries
+is_reported id r entries = list_any (λ v. is_report_entry_of id r v) entries
 
 abbrev pub is_document_of : List ℕ → Revision → Value → Bool
-is_document_of id r v = is_text id (text_at (codes "_id") v) && is_text (text_of r) (text_at (codes "_rev") v)
+is_document_of id r v = is_this_text id (text_at (codes "_id") v) && is_this_text (text_of r) (text_at (codes "_rev") v)
 
 -- the revision is one of these documents
 abbrev pub is_sent : List ℕ → Revision → List Value → Bool

@@ -19,13 +19,13 @@ use Rattle.write.specs.Bulk.{outcomes}
 use Rattle.write.specs.Terms.{terms_in}
 use Rattle.api.specs.Asking.{asker}
 use Rattle.api.specs.Bulk.{Bulk}
-use Rattle.api.specs.Listings.{differences_in}
+use Rattle.api.specs.Listings.{requested_differences}
 use Rattle.api.specs.Queries.{revisions_listed}
-use Rattle.node.specs.Answer.{Outcome, answer, outcome_in, reply}
+use Rattle.node.specs.Answer.{Outcome, answer, outcome_in_database, reply}
 use Rattle.node.specs.Works.{bulk_done}
 use Rattle.repl.specs.Calls.{Revisions, compare_revisions, documents_value, list_changes, push_documents, request_of, revisions_value, texts_value}
 use Rattle.repl.specs.Calls as call
-use Rattle.repl.specs.Configuration.{Configuration, database_of}
+use Rattle.repl.specs.Configuration.{PassConfiguration, database_of_side}
 use Rattle.repl.specs.declared.side.Side.{Side}
 
 -- a text is bytes, as each text of a program is
@@ -47,9 +47,9 @@ pub record IsListed (a : Contents) (name : List ℕ) (since : ℕ) (most : Optio
 -- where a call for changes is answered with 200, these are listed
 abbrev pub ChangesAreListed : Type 0
 ChangesAreListed =
-    (c : auth.Configuration) (a : Contents) (k : Configuration) (side : Side) (since : ℕ) (most : Option ℕ) → AreBytes (database_of k side) → since ≤ greatest_count
+    (c : auth.Configuration) (a : Contents) (k : PassConfiguration) (side : Side) (since : ℕ) (most : Option ℕ) → AreBytes (database_of_side k side) → since ≤ greatest_count
     → IfSome most (λ n. n ≤ greatest_count) → (answer c a (request_of k side (list_changes since most))).status ≡ 200
-    → IsListed a (database_of k side) since most (answer c a (request_of k side (list_changes since most)))
+    → IsListed a (database_of_side k side) since most (answer c a (request_of k side (list_changes since most)))
 
 -- ---- differences
 
@@ -58,15 +58,15 @@ pub record IsCompared (a : Contents) (name : List ℕ) (leaves : List Revisions)
   pub db : Database
   pub asked : List RevisionsOf
   pub there : get a name ≡ Some db
-  pub says : differences_in (revisions_value leaves) ≡ Some asked
+  pub says : requested_differences (revisions_value leaves) ≡ Some asked
   pub is : o ≡ reply (revision_differences asked db)
 
 -- where a call to compare revisions is answered with 200, they are compared
 abbrev pub RevisionsAreCompared : Type 0
 RevisionsAreCompared =
-    (c : auth.Configuration) (a : Contents) (k : Configuration) (side : Side) (leaves : List Revisions) → AreBytes (database_of k side) → IsLawful (revisions_value leaves)
+    (c : auth.Configuration) (a : Contents) (k : PassConfiguration) (side : Side) (leaves : List Revisions) → AreBytes (database_of_side k side) → IsLawful (revisions_value leaves)
     → (answer c a (request_of k side (compare_revisions leaves))).status ≡ 200
-    → IsCompared a (database_of k side) leaves (answer c a (request_of k side (compare_revisions leaves)))
+    → IsCompared a (database_of_side k side) leaves (answer c a (request_of k side (compare_revisions leaves)))
 
 -- ---- opened revisions
 
@@ -81,10 +81,10 @@ pub record IsOpened (a : Contents) (name : List ℕ) (r : Revisions) (o : Outcom
 -- where a call to open revisions is answered with 200, they are opened
 abbrev pub RevisionsAreOpened : Type 0
 RevisionsAreOpened =
-    (c : auth.Configuration) (a : Contents) (k : Configuration) (side : Side) (r : Revisions) → AreBytes (database_of k side) → AreBytes r.id
+    (c : auth.Configuration) (a : Contents) (k : PassConfiguration) (side : Side) (r : Revisions) → AreBytes (database_of_side k side) → AreBytes r.id
     → AreBytes (canonical (texts_value r.revisions)) → IsLawful (texts_value r.revisions)
     → (answer c a (request_of k side (call.open_revisions r))).status ≡ 200
-    → IsOpened a (database_of k side) r (answer c a (request_of k side (call.open_revisions r)))
+    → IsOpened a (database_of_side k side) r (answer c a (request_of k side (call.open_revisions r)))
 
 -- ---- pushed documents
 
@@ -99,11 +99,11 @@ pub record IsPushed (c : auth.Configuration) (a : Contents) (m : Message) (name 
   pub caller : auth.Identity
   pub asks : asker c m ≡ Ok caller
   pub there : get a name ≡ Some db
-  pub is : o ≡ outcome_in name (bulk_done caller (replica_bulk documents) (outcomes (terms_in caller name db) false (history_at db) documents))
+  pub is : o ≡ outcome_in_database name (bulk_done caller (replica_bulk documents) (outcomes (terms_in caller name db) false (history_at db) documents))
 
 -- where a push is answered with 201, each document is judged
 abbrev pub DocumentsArePushed : Type 0
 DocumentsArePushed =
-    (c : auth.Configuration) (a : Contents) (k : Configuration) (side : Side) (documents : List Value) → AreBytes (database_of k side) → IsLawful (documents_value documents)
+    (c : auth.Configuration) (a : Contents) (k : PassConfiguration) (side : Side) (documents : List Value) → AreBytes (database_of_side k side) → IsLawful (documents_value documents)
     → (answer c a (request_of k side (push_documents documents))).status ≡ 201
-    → IsPushed c a (request_of k side (push_documents documents)) (database_of k side) documents (answer c a (request_of k side (push_documents documents)))
+    → IsPushed c a (request_of k side (push_documents documents)) (database_of_side k side) documents (answer c a (request_of k side (push_documents documents)))

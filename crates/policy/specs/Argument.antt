@@ -1,11 +1,12 @@
 -- What an update rule is asked of: the new document, the old one, the security object, and who writes where.
 -- CouchDB manual, ddocs/ddocs, "Validate Document Update Functions" (newDoc, oldDoc, userCtx, secObj), and json-structure, "User Context Object".
-use Rattle.std.specs.Prelude.{ℕ, Bool, List, codes, map, Option, Some, None, option_map}
+use Rattle.std.specs.Prelude.{ℕ, Bool, List, codes, map, Option, option_map}
 use Rattle.auth.specs.Callers.{Identity}
-use Rattle.couch_json.specs.Value.{Value, null, text, array, object, no_members, member, put}
+use Rattle.couch_json.specs.Parts.{value_or_null}
+use Rattle.couch_json.specs.Value.{Value, text, array, object, no_members, member, put}
 use Rattle.couch_json.specs.View.{items_of}
 use Rattle.tree.specs.Revision.{Revision}
-use Rattle.tree.specs.ShownDocument.{members_in, shown_document, with_mark}
+use Rattle.tree.specs.ShownDocument.{body_members, document_at_revision, with_mark}
 
 -- a document as a write would have it; it has no revision yet
 pub record NewDocument : Type 0 where
@@ -22,16 +23,11 @@ pub record OldDocument : Type 0 where
 
 -- the body with `_id`, and with `_deleted` where it is deleted
 abbrev pub new_document : NewDocument → Value
-new_document new = object (with_mark new.deleted (put (codes "_id") (text new.id) (members_in new.body)))
+new_document new = object (with_mark new.deleted (put (codes "_id") (text new.id) (body_members new.body)))
 
 -- the same with `_rev`, as readers are shown it
 abbrev pub old_document : OldDocument → Value
-old_document old = shown_document old.id old.rev (record { deleted = old.deleted; body = old.body })
-
--- a value, or null where there is none
-abbrev pub value_or_null : Option Value → Value
-value_or_null None = null
-value_or_null (Some v) = v
+old_document old = document_at_revision old.id old.rev (record { deleted = old.deleted; body = old.body })
 
 -- a caller's name; an anonymous caller has null
 abbrev pub name_value : Option (List ℕ) → Value
@@ -56,7 +52,7 @@ circumstances caller name security =
 
 -- the argument of these documents under circumstances
 abbrev pub argument_under : Value → Value → Option Value → Value
-argument_under beside new old = object (member (codes "newDoc") new (member (codes "oldDoc") (value_or_null old) (members_in beside)))
+argument_under beside new old = object (member (codes "newDoc") new (member (codes "oldDoc") (value_or_null old) (body_members beside)))
 
 -- what the rules of the database of this name, which has this security object, are asked of; null stands for an old document
 -- where there is none

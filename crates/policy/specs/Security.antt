@@ -62,8 +62,8 @@ is_name_among None names = false
 is_name_among (Some name) names = is_among name names
 
 -- the caller is in the group, by name or by a role
-abbrev pub is_in : Option Value → Identity → Bool
-is_in group caller =
+abbrev pub is_in_group : Option Value → Identity → Bool
+is_in_group group caller =
     is_name_among caller.name (listed_in group (codes "names"))
     || list_any (λ role. is_among role (listed_in group (codes "roles"))) caller.roles
 
@@ -82,10 +82,10 @@ is_server_admin caller = is_among admin_role caller.roles
 
 -- an admin of the server, or of this database
 abbrev pub is_database_admin : Value → Identity → Bool
-is_database_admin security caller = is_server_admin caller || is_in (member_of security (codes "admins")) caller
+is_database_admin security caller = is_server_admin caller || is_in_group (member_of security (codes "admins")) caller
 
 -- a database whose members' group names nobody is open to everyone
 abbrev pub is_member : Value → Identity → Bool
 is_member security caller =
     is_database_admin security caller || is_vacant (member_of security (codes "members"))
-    || is_in (member_of security (codes "members")) caller
+    || is_in_group (member_of security (codes "members")) caller

@@ -3,7 +3,8 @@
 ghost use Rattle.std.specs.Prelude.{◌≡◌, IfOk, OnOk, codes, option_copied, option_map};
 ghost use Rattle.couch_json.specs.Value.{put};
 ghost use Rattle.couch_json.specs.View.{members_view, view};
-ghost use Rattle.policy.specs.Argument.{argument_under, circumstances, value_or_null};
+ghost use Rattle.policy.specs.Argument.{argument_under, circumstances};
+ghost use Rattle.couch_json.specs.Parts.{value_or_null};
 ghost use Rattle.policy.specs.ArgumentMembers.{KeepsCircumstances};
 ghost use Rattle.policy.specs.UpdateRules.{update_refusal};
 

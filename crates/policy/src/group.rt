@@ -3,14 +3,14 @@ ghost use Rattle.std.specs.List.{list_any};
 ghost use Rattle.auth.specs.Roles.{is_among};
 ghost use Rattle.couch_json.specs.Parts.{text_in};
 ghost use Rattle.couch_json.specs.View.{view, items_view};
-ghost use Rattle.policy.specs.Security.{is_empty, is_in, is_name_among, is_vacant, item_texts, listed_in};
+ghost use Rattle.policy.specs.Security.{is_empty, is_in_group, is_name_among, is_vacant, item_texts, listed_in};
 
 use auth::Caller;
 use couch_json::Json;
 
 /// Tells whether the caller is in the group, by name or by a role.
 pub(crate) fn is_in(group: Option<&Json>, caller: &Caller) -> bool
-    ensures { result ≡ is_in (option_map (λ v. view v.now) group.entry) caller.now }
+    ensures { result ≡ is_in_group (option_map (λ v. view v.now) group.entry) caller.now }
 {
     is_named(list_under(group, "names"), caller) || has_role(list_under(group, "roles"), caller)
 }

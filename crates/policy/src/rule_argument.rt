@@ -3,7 +3,7 @@
 ghost use Rattle.std.specs.Prelude.{◌≡◌, IfOk, map, option_map, string_bytes};
 ghost use Rattle.couch_json.specs.Value.{object, text};
 ghost use Rattle.couch_json.specs.View.{view, members_view};
-ghost use Rattle.tree.specs.ShownDocument.{members_in};
+ghost use Rattle.tree.specs.ShownDocument.{body_members};
 ghost use Rattle.policy.specs.Argument.{argument_with, name_value, new_document, user_context};
 
 use crate::security::Security;
@@ -76,14 +76,14 @@ pub fn show_new(alloc: Global, id: &DocId, deleted: bool, body: &Json) -> Got<Js
 
 /// Copies the members of a body.
 fn copy_members(alloc: Global, body: &Json) -> Got<NameMap<Json>>
-    ensures { IfOk result (λ members. members_view members.entries ≡ members_in (view body.now)) }
+    ensures { IfOk result (λ members. members_view members.entries ≡ body_members (view body.now)) }
 {
     Ok(into_members(alloc, body.copy(alloc)?))
 }
 
 /// Returns the members of a value, or none where it is no object.
 pub(crate) fn into_members(alloc: Global, value: Json) -> NameMap<Json>
-    ensures { members_view result.entries ≡ members_in (view value) }
+    ensures { members_view result.entries ≡ body_members (view value) }
 {
     match value {
         Json::Object(members) => members,

@@ -1,7 +1,8 @@
 ghost use Rattle.std.specs.Prelude.{◌≡◌, ◌↔◌, IfOk, IsErrOf, IsTrue, Option, option_map, option_copied, true, false, map, string_bytes};
 ghost use Rattle.couch_json.specs.View.{view, items_view};
 ghost use Rattle.auth.specs.Roles.{is_among};
-ghost use Rattle.policy.specs.Security.{closed_security, is_in, is_security, is_vacant, is_server_admin, is_database_admin, is_member, item_texts, listed_in};
+ghost use Rattle.policy.specs.Security.{closed_security, is_in_group, is_security, is_vacant, is_server_admin, is_database_admin, is_member, item_texts};
+ghost use Rattle.policy.specs.Security.{listed_in};
 ghost use Rattle.policy.specs.declared.security.SecurityFault.TheVariants.{Memory};
 
 use crate::closed::closed_value;

@@ -5,13 +5,13 @@ use Rattle.couch_json.specs.Value.{Value, object, put, text}
 use Rattle.store.specs.Contents.{local_at, local_revision}
 use Rattle.store.specs.Database.{Database}
 use Rattle.store.specs.declared.local_document.LocalDocument.{LocalDocument}
-use Rattle.tree.specs.ShownDocument.{members_in}
+use Rattle.tree.specs.ShownDocument.{body_members}
 use Rattle.read.specs.declared.fault.ReadFault.{ReadFault}
 use Rattle.read.specs.declared.fault.ReadFault.TheVariants.{Missing}
 
 -- its body with its id and its revision
 abbrev pub shown_local : List ℕ → LocalDocument → Value
-shown_local id document = object (put (codes "_rev") (text (local_revision document.number)) (put (codes "_id") (text id) (members_in document.body)))
+shown_local id document = object (put (codes "_rev") (text (local_revision document.number)) (put (codes "_id") (text id) (body_members document.body)))
 
 -- missing where none was written
 abbrev pub local_found : List ℕ → Option LocalDocument → Result Value ReadFault

@@ -4,7 +4,7 @@ ghost use Rattle.std.specs.Prelude.{◌≡◌, IfOk, option_map};
 ghost use Rattle.std.specs.FinMap as map;
 ghost use Rattle.couch_json.specs.View.{members_view, view};
 ghost use Rattle.store.specs.Calls.{OnlyReads};
-ghost use Rattle.tree.specs.ShownDocument.{members_in};
+ghost use Rattle.tree.specs.ShownDocument.{body_members};
 ghost use Rattle.read.specs.Answers.{AnswersValue};
 ghost use Rattle.read.specs.Local.{local_document, shown_local};
 
@@ -47,7 +47,7 @@ fn show_local(alloc: Global, id: &DocId, document: LocalDocument) -> Got<JsonTex
 
 /// Takes the members out of a body.
 fn take_members(alloc: Global, body: Json) -> NameMap<Json>
-    ensures { members_view result.entries ≡ members_in (view body) }
+    ensures { members_view result.entries ≡ body_members (view body) }
 {
     match body {
         Json::Object(members) => members,

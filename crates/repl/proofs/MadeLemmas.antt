@@ -1,6 +1,6 @@
 -- A list that grows by what is made of one element after another.
 use Rattle.std.proofs.Common.{◌≡◌, ℕ, List, [], ◌∷◌, ◌++◌, refl, ap, sym, append_assoc, ◌∙◌}
-use Rattle.repl.specs.Replies.{Opened, document, missing, documents_of, missing_reports}
+use Rattle.repl.specs.Replies.{Opened, document, missing, documents_of_opened, missing_reports}
 
 -- what was made and is still to be made, before an element and after it
 pub made_of_one : {S A : Type 0} (made_of : List S → List A) (s : S) (here next : List S) (made old new : List A)
@@ -13,7 +13,7 @@ made_of_one made_of s here next made old new first parted added =
     ∙ ap (λ ss. old ++ made_of ss) (sym first)
 
 -- the document of the first revision, and those of the others
-pub documents_parted : (o : Opened) (os : List Opened) → documents_of (o ∷ []) ++ documents_of os ≡ documents_of (o ∷ os)
+pub documents_parted : (o : Opened) (os : List Opened) → documents_of_opened (o ∷ []) ++ documents_of_opened os ≡ documents_of_opened (o ∷ os)
 documents_parted (document v) os = refl
 documents_parted (missing rev) os = refl
 

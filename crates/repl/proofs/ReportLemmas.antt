@@ -1,8 +1,8 @@
 -- What a pass reports after several turns.
 use Rattle.std.proofs.Common.{◌≡◌, ◌∙◌, ℕ, List, [], ◌∷◌, ◌++◌, Result, Ok, Err, append_assoc, append-nil, refl, sym, ap}
 use Rattle.couch_json.specs.Value.{Value}
-use Rattle.repl.specs.Configuration.{Configuration}
-use Rattle.repl.specs.Passes.{Pass, answered_in, first_of_pending, first_pass, pass_after, with_changes, with_differences, with_failures, with_opened, with_source, with_source_reread, with_source_written, with_target, with_target_reread, with_target_written}
+use Rattle.repl.specs.Configuration.{PassConfiguration}
+use Rattle.repl.specs.Passes.{Pass, answered_in, first_of_pending, first_pass, pass_after, with_changes, with_lacking, with_failures, with_opened, with_source, with_source_reread, with_source_written, with_target, with_target_reread, with_target_written}
 use Rattle.repl.specs.Replies.{changes_listed, checkpoint_read, checkpoint_written, differences_read, documents_pushed, missing_reports, revisions_opened}
 use Rattle.repl.specs.Turns.{Turn, after_turn, after_turns, answered, lost, told_at, told_in, told_of, where_said}
 use Rattle.repl.specs.declared.phase.Phase.{Phase}
@@ -23,7 +23,7 @@ answer_told : (f : Phase) (p : Pass) (status : ℕ) (body : List ℕ) → (answe
 answer_told ReadSource p status body = told_none with_source p (checkpoint_read status body) (λ s. refl)
 answer_told ReadTarget p status body = told_none with_target p (checkpoint_read status body) (λ s. refl)
 answer_told ListChanges p status body = told_none with_changes p (changes_listed status body) (λ c. refl)
-answer_told Compare p status body = told_none with_differences p (differences_read p.leaves status body) (λ m. refl)
+answer_told Compare p status body = told_none with_lacking p (differences_read p.leaves status body) (λ m. refl)
 answer_told Open p status body = told_some with_opened p (revisions_opened status body) (λ opened. missing_reports (first_of_pending p.pending).id opened) (λ o. refl)
 answer_told Push p status body = told_some with_failures p (documents_pushed status body) (λ failures. failures) (λ fs. refl)
 answer_told WriteSource p status body = told_none with_source_written p (checkpoint_written status body) (λ r. refl)
@@ -45,5 +45,5 @@ turns_told p (t ∷ ts) =
     turns_told (after_turn p t) ts ∙ ap (λ (xs : List Value). xs ++ told_of (after_turn p t) ts) (turn_told p t)
     ∙ append_assoc p.refused (told_at p t) (told_of (after_turn p t) ts)
 
-pub all_told : (c : Configuration) (ts : List Turn) → (after_turns (first_pass c) ts).refused ≡ told_of (first_pass c) ts
+pub all_told : (c : PassConfiguration) (ts : List Turn) → (after_turns (first_pass c) ts).refused ≡ told_of (first_pass c) ts
 all_told c ts = turns_told (first_pass c) ts

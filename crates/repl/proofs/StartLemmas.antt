@@ -4,9 +4,9 @@ use Rattle.std.specs.Prelude.{⊤, is_ok}
 use Rattle.couch_json.specs.Value.{Value}
 use Rattle.repl.specs.Calls.{Revisions}
 use Rattle.repl.specs.Checkpoints.{Checkpoint, start_of}
-use Rattle.repl.specs.Configuration.{Configuration}
-use Rattle.repl.specs.Passes.{Pass, answered_in, first_pass, is_written, lost_of, pass_after, phase_after_list, phase_after_loss, phase_after_round, phase_with, with_changes, with_differences, with_failures, with_opened, with_source, with_source_reread, with_source_written, with_target, with_target_reread, with_target_written}
-use Rattle.repl.specs.Replies.{Changes, Opened, Stored, changes_listed, checkpoint_read, checkpoint_written, differences_read, documents_of, documents_pushed, revisions_opened}
+use Rattle.repl.specs.Configuration.{PassConfiguration}
+use Rattle.repl.specs.Passes.{Pass, answered_in, first_pass, is_written, lost_of, pass_after, phase_after_list, phase_after_loss, phase_after_round, phase_with, with_changes, with_lacking, with_failures, with_opened, with_source, with_source_reread, with_source_written, with_target, with_target_reread, with_target_written}
+use Rattle.repl.specs.Replies.{Changes, Opened, Stored, changes_listed, checkpoint_read, checkpoint_written, differences_read, documents_of_opened, documents_pushed, revisions_opened}
 use Rattle.repl.specs.Turns.{Turn, after_turn, after_turns, answered, checkpoint_said, has_listed, lists_at, lists_in, lost, replies_in, start_by, stored_said}
 use Rattle.repl.specs.declared.phase.Phase.{Phase}
 use Rattle.repl.specs.declared.phase.Phase.TheVariants.{ReadSource, ReadTarget, ListChanges, Compare, Open, Push, WriteSource, WriteTarget, RereadSource, RereadTarget, Done, Stopped}
@@ -98,12 +98,12 @@ answer_stands ListChanges p rs status body e h =
     after_reply with_changes p (rs ++ (status, body) ∷ []) (changes_listed status body) (λ (c : Changes). listed c.leaves (with_changes p c) (rs ++ (status, body) ∷ []) more)
 answer_stands Compare p rs status body e h =
     let more = start_more rs ((status, body) ∷ []) p.start h in
-    after_reply with_differences p (rs ++ (status, body) ∷ []) (differences_read p.leaves status body)
-    (λ (missing : List Revisions). pending missing p.documents (with_differences p missing) (rs ++ (status, body) ∷ []) more)
+    after_reply with_lacking p (rs ++ (status, body) ∷ []) (differences_read p.leaves status body)
+    (λ (missing : List Revisions). pending missing p.documents (with_lacking p missing) (rs ++ (status, body) ∷ []) more)
 answer_stands Open p rs status body e h =
     let more = start_more rs ((status, body) ∷ []) p.start h in
     after_reply with_opened p (rs ++ (status, body) ∷ []) (revisions_opened status body)
-    (λ (opened : List Opened). pending _ (p.documents ++ documents_of opened) (with_opened p opened) (rs ++ (status, body) ∷ []) more)
+    (λ (opened : List Opened). pending _ (p.documents ++ documents_of_opened opened) (with_opened p opened) (rs ++ (status, body) ∷ []) more)
 answer_stands Push p rs status body e h =
     let more = start_more rs ((status, body) ∷ []) p.start h in
     after_reply with_failures p (rs ++ (status, body) ∷ []) (documents_pushed status body) (λ (failures : List Value). more)
@@ -179,7 +179,7 @@ answer_reports f p b rs status body h k = by f h
     by ReadSource h = kept _ (same_start with_source p (checkpoint_read status body) (λ a. refl))
     by ReadTarget h = kept _ (same_start with_target p (checkpoint_read status body) (λ a. refl))
     by ListChanges h = by_listing b p rs ((status, body) ∷ []) (changes_listed status body) h k
-    by Compare h = kept _ (same_start with_differences p (differences_read p.leaves status body) (λ a. refl))
+    by Compare h = kept _ (same_start with_lacking p (differences_read p.leaves status body) (λ a. refl))
     by Open h = kept _ (same_start with_opened p (revisions_opened status body) (λ a. refl))
     by Push h = kept _ (same_start with_failures p (documents_pushed status body) (λ a. refl))
     by WriteSource h = kept _ (same_start with_source_written p (checkpoint_written status body) (λ a. refl))
@@ -231,6 +231,6 @@ reported : (b : Bool) (rs : Taken) (n : ℕ) → Reported b rs n → n ≡ cond 
 reported false rs n h = h
 reported true rs n h = h.is ∙ sym (ap start_by h.are)
 
-pub start_is : (c : Configuration) (ts : List Turn) → (after_turns (first_pass c) ts).start_seq ≡ cond (has_listed (first_pass c) ts) (start_by (replies_in ts)) 0
+pub start_is : (c : PassConfiguration) (ts : List Turn) → (after_turns (first_pass c) ts).start_seq ≡ cond (has_listed (first_pass c) ts) (start_by (replies_in ts)) 0
 start_is c ts =
     reported (has_listed (first_pass c) ts) (replies_in ts) (after_turns (first_pass c) ts).start_seq (turns_report (first_pass c) false [] ts refl refl)

@@ -3,9 +3,9 @@ use Rattle.std.proofs.Common.{◌≡◌, ◌∙◌, ℕ, ◌+◌, ◌≤◌, ◌
 use Rattle.std.specs.Prelude.{⊤, option_and_then}
 use Rattle.couch_json.specs.Value.{Value}
 use Rattle.repl.specs.Calls.{Revisions}
-use Rattle.repl.specs.Configuration.{Configuration}
-use Rattle.repl.specs.Passes.{Pass, answered_in, answered_of, first_pass, is_written, lost_in, lost_of, most_losses, pass_after, phase_after_list, phase_after_loss, phase_after_round, phase_with, stopped_at, with_changes, with_differences, with_failures, with_loss, with_opened, with_source, with_source_reread, with_source_written, with_target, with_target_reread, with_target_written}
-use Rattle.repl.specs.Replies.{changes_in, changes_listed, checkpoint_read, checkpoint_written, differences_in, differences_read, documents_of, documents_pushed, failure_in, is_missing, nothing_stored, opened_in, revision_in, revisions_opened, said_at, said_or_reply, stored_in, value_in}
+use Rattle.repl.specs.Configuration.{PassConfiguration}
+use Rattle.repl.specs.Passes.{Pass, answered_in, answered_of, first_pass, is_written, lost_in, lost_of, most_losses, pass_after, phase_after_list, phase_after_loss, phase_after_round, phase_with, stopped_at, with_changes, with_lacking, with_failures, with_loss, with_opened, with_source, with_source_reread, with_source_written, with_target, with_target_reread, with_target_written}
+use Rattle.repl.specs.Replies.{changes_in_reply, changes_listed, checkpoint_read, checkpoint_written, differences_in_reply, differences_read, documents_of_opened, documents_pushed, failure_in, is_missing, nothing_stored, opened_in, revision_in_reply, revisions_opened, said_at, said_or_reply, stored_in, value_in}
 use Rattle.repl.specs.Shapes.{list_in}
 use Rattle.repl.specs.Causes.{HasCause, IsCause, IsFault, expects, has_shape, is_of, losses_in, says_none}
 use Rattle.repl.specs.Turns.{Turn, after_turn, after_turns, answered, lost}
@@ -93,15 +93,15 @@ answer_came : (f : Phase) (p : Pass) (status : ℕ) (body : List ℕ) → p.phas
 answer_came ReadSource p status body e going = came with_source p (checkpoint_read status body) status _ _ (checkpoint_fault status body) (λ a. refl) (λ a. refl)
 answer_came ReadTarget p status body e going = came with_target p (checkpoint_read status body) status _ _ (checkpoint_fault status body) (λ a. refl) (λ a. refl)
 answer_came ListChanges p status body e going =
-    came with_changes p (changes_listed status body) status _ _ (said_fault 200 changes_in status body) (λ a. after_list a.leaves) (λ a. refl)
+    came with_changes p (changes_listed status body) status _ _ (said_fault 200 changes_in_reply status body) (λ a. after_list a.leaves) (λ a. refl)
 answer_came Compare p status body e going =
-    came with_differences p (differences_read p.leaves status body) status _ _ (said_fault 200 (λ v. differences_in p.leaves v) status body) (λ a. after_some a p.documents) (λ a. refl)
+    came with_lacking p (differences_read p.leaves status body) status _ _ (said_fault 200 (λ v. differences_in_reply p.leaves v) status body) (λ a. after_some a p.documents) (λ a. refl)
 answer_came Open p status body e going =
-    came with_opened p (revisions_opened status body) status _ _ (said_fault 200 (λ v. list_in opened_in v) status body) (λ a. after_some _ (p.documents ++ documents_of a)) (λ a. refl)
+    came with_opened p (revisions_opened status body) status _ _ (said_fault 200 (λ v. list_in opened_in v) status body) (λ a. after_some _ (p.documents ++ documents_of_opened a)) (λ a. refl)
 answer_came Push p status body e going =
     came with_failures p (documents_pushed status body) status _ _ (said_fault 201 (λ v. list_in failure_in v) status body) (λ a. refl) (λ a. refl)
-answer_came WriteSource p status body e going = came with_source_written p (checkpoint_written status body) status _ _ (said_fault 201 revision_in status body) (λ a. refl) (λ a. refl)
-answer_came WriteTarget p status body e going = came with_target_written p (checkpoint_written status body) status _ _ (said_fault 201 revision_in status body) (λ a. after_round p.is_full) (λ a. refl)
+answer_came WriteSource p status body e going = came with_source_written p (checkpoint_written status body) status _ _ (said_fault 201 revision_in_reply status body) (λ a. refl) (λ a. refl)
+answer_came WriteTarget p status body e going = came with_target_written p (checkpoint_written status body) status _ _ (said_fault 201 revision_in_reply status body) (λ a. after_round p.is_full) (λ a. refl)
 answer_came RereadSource p status body e going =
     came with_source_reread p (checkpoint_read status body) status _ _ (checkpoint_fault status body) (λ a. either (is_written p a.checkpoint) WriteTarget WriteSource refl refl) (λ a. refl)
 answer_came RereadTarget p status body e going =
@@ -251,5 +251,5 @@ stopped_from c before (t ∷ ts) why h e =
         (onward (subst (λ (q : Pass). Going q.phase q (losses_in (before ++ t ∷ []))) (sym one) going)
         (ap (λ (q : Pass). (after_turns q ts).phase) one ∙ e))
 
-pub stop_cause : (c : Configuration) (ts : List Turn) (why : Why) → (after_turns (first_pass c) ts).phase ≡ Stopped why → HasCause (first_pass c) why ts
+pub stop_cause : (c : PassConfiguration) (ts : List Turn) (why : Why) → (after_turns (first_pass c) ts).phase ≡ Stopped why → HasCause (first_pass c) why ts
 stop_cause c ts why e = stopped_from (first_pass c) [] ts why (refl, omega arith) e

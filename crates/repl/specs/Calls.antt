@@ -9,7 +9,7 @@ use Rattle.couch_json.specs.Value.{Value, truth, text, array, object, Members, n
 use Rattle.couch_json.specs.View.{items_of}
 use Rattle.couch_http.specs.Message.{HeaderField, Message}
 use Rattle.form_urlencoded.specs.Form.{append_pair}
-use Rattle.repl.specs.Configuration.{Account, Configuration, database_of}
+use Rattle.repl.specs.Configuration.{Account, PassConfiguration, database_of_side}
 use Rattle.repl.specs.Spelling.{segment, document_segments}
 use Rattle.repl.specs.declared.side.Side.{Side}
 
@@ -54,8 +54,8 @@ limit_part None = []
 limit_part (Some most) = codes "&limit=" ++ decimal most
 
 -- the changes after a sequence, with all leaves: all of them, or the first ones, at most so many
-abbrev pub changes_query : ℕ → Option ℕ → List ℕ
-changes_query since most = codes "since=" ++ decimal since ++ codes "&style=all_docs" ++ limit_part most
+abbrev pub changes_call_query : ℕ → Option ℕ → List ℕ
+changes_call_query since most = codes "since=" ++ decimal since ++ codes "&style=all_docs" ++ limit_part most
 
 -- these revisions, each with its history
 abbrev pub revisions_query : List (List ℕ) → List ℕ
@@ -64,45 +64,34 @@ revisions_query revisions =
 
 -- ---- requests
 
+-- the method of a call, its path below that of the database, its query, if it has one, and its body
+abbrev pub call_parts : Call → List ℕ × List ℕ × Option (List ℕ) × List ℕ
+call_parts (read_checkpoint id) = (codes "GET", codes "_local/" ++ segment id, None, [])
+call_parts (write_checkpoint id body) = (codes "PUT", codes "_local/" ++ segment id, None, canonical body)
+call_parts (list_changes since most) = (codes "GET", codes "_changes", Some (changes_call_query since most), [])
+call_parts (compare_revisions rs) = (codes "POST", codes "_revs_diff", None, canonical (revisions_value rs))
+call_parts (open_revisions r) = (codes "GET", document_segments r.id, Some (revisions_query r.revisions), [])
+call_parts (push_documents documents) = (codes "POST", codes "_bulk_docs", None, canonical (documents_value documents))
+
 -- the method of a call
-abbrev pub method_of : Call → List ℕ
-method_of (read_checkpoint id) = codes "GET"
-method_of (write_checkpoint id body) = codes "PUT"
-method_of (list_changes since most) = codes "GET"
-method_of (compare_revisions rs) = codes "POST"
-method_of (open_revisions r) = codes "GET"
-method_of (push_documents documents) = codes "POST"
+abbrev pub call_method : Call → List ℕ
+call_method call = (call_parts call).0
 
 -- the path, below that of the database
-abbrev pub page_of : Call → List ℕ
-page_of (read_checkpoint id) = codes "_local/" ++ segment id
-page_of (write_checkpoint id body) = codes "_local/" ++ segment id
-page_of (list_changes since most) = codes "_changes"
-page_of (compare_revisions rs) = codes "_revs_diff"
-page_of (open_revisions r) = document_segments r.id
-page_of (push_documents documents) = codes "_bulk_docs"
-
--- the path of a page of a database
-abbrev pub path_of : List ℕ → List ℕ → List ℕ
-path_of db page = codes "/" ++ segment db ++ codes "/" ++ page
+abbrev pub call_page : Call → List ℕ
+call_page call = (call_parts call).1
 
 -- the query of a call, if it has one
-abbrev pub query_of : Call → Option (List ℕ)
-query_of (read_checkpoint id) = None
-query_of (write_checkpoint id body) = None
-query_of (list_changes since most) = Some (changes_query since most)
-query_of (compare_revisions rs) = None
-query_of (open_revisions r) = Some (revisions_query r.revisions)
-query_of (push_documents documents) = None
+abbrev pub call_query : Call → Option (List ℕ)
+call_query call = (call_parts call).2
 
 -- the body of a call
-abbrev pub body_of : Call → List ℕ
-body_of (read_checkpoint id) = []
-body_of (write_checkpoint id body) = canonical body
-body_of (list_changes since most) = []
-body_of (compare_revisions rs) = canonical (revisions_value rs)
-body_of (open_revisions r) = []
-body_of (push_documents documents) = canonical (documents_value documents)
+abbrev pub call_body : Call → List ℕ
+call_body call = (call_parts call).3
+
+-- the path of a page of a database
+abbrev pub page_path : List ℕ → List ℕ → List ℕ
+page_path db page = codes "/" ++ segment db ++ codes "/" ++ page
 
 -- the headers by which a proxy names the user; roles are listed, and the list may be empty
 abbrev pub account_fields : Account → List HeaderField
@@ -118,10 +107,10 @@ headers_of None = []
 headers_of (Some a) = account_fields a
 
 -- the request of these parts to a side
-abbrev pub request_with : Configuration → Side → List ℕ → List ℕ → Option (List ℕ) → List ℕ → Message
+abbrev pub request_with : PassConfiguration → Side → List ℕ → List ℕ → Option (List ℕ) → List ℕ → Message
 request_with c side method page query body = record {
   method = method;
-  path = path_of (database_of c side) page;
+  path = page_path (database_of_side c side) page;
   query = query;
   headers = headers_of c.user;
   body = body;
@@ -129,5 +118,5 @@ request_with c side method page query body = record {
 }
 
 -- the request that a call to a side is
-abbrev pub request_of : Configuration → Side → Call → Message
-request_of c side call = request_with c side (method_of call) (page_of call) (query_of call) (body_of call)
+abbrev pub request_of : PassConfiguration → Side → Call → Message
+request_of c side call = request_with c side (call_method call) (call_page call) (call_query call) (call_body call)

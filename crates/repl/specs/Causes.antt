@@ -3,7 +3,7 @@
 use Rattle.std.specs.Prelude.{◌≡◌, ℕ, ◌+◌, ◌==◌, ◌||◌, ◌&&◌, Bool, true, false, is_some, List, [], ◌∷◌, ◌++◌, Option, option_and_then}
 use Rattle.couch_json.specs.Value.{Value}
 use Rattle.repl.specs.Passes.{Pass, most_losses}
-use Rattle.repl.specs.Replies.{changes_in, differences_in, failure_in, is_missing, opened_in, revision_in, stored_in, value_in}
+use Rattle.repl.specs.Replies.{changes_in_reply, differences_in_reply, failure_in, is_missing, opened_in, revision_in_reply, stored_in, value_in}
 use Rattle.repl.specs.Shapes.{list_in}
 use Rattle.repl.specs.Turns.{Turn, after_turns, answered, lost}
 use Rattle.repl.specs.declared.phase.Phase.{Phase}
@@ -40,12 +40,12 @@ is_of shape body = is_some (option_and_then (λ v. shape v) (value_in body))
 abbrev pub has_shape : Phase → Pass → ℕ → List ℕ → Bool
 has_shape ReadSource p status body = says_none status body || is_of stored_in body
 has_shape ReadTarget p status body = says_none status body || is_of stored_in body
-has_shape ListChanges p status body = is_of changes_in body
-has_shape Compare p status body = is_of (λ v. differences_in p.leaves v) body
+has_shape ListChanges p status body = is_of changes_in_reply body
+has_shape Compare p status body = is_of (λ v. differences_in_reply p.leaves v) body
 has_shape Open p status body = is_of (λ v. list_in opened_in v) body
 has_shape Push p status body = is_of (λ v. list_in failure_in v) body
-has_shape WriteSource p status body = is_of revision_in body
-has_shape WriteTarget p status body = is_of revision_in body
+has_shape WriteSource p status body = is_of revision_in_reply body
+has_shape WriteTarget p status body = is_of revision_in_reply body
 has_shape RereadSource p status body = says_none status body || is_of stored_in body
 has_shape RereadTarget p status body = says_none status body || is_of stored_in body
 has_shape Done p status body = true

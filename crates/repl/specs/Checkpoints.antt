@@ -7,7 +7,7 @@ use Rattle.couch_json.specs.Value.{Value, null, whole, text, array, object, no_i
 use Rattle.couch_json.specs.View.{items_of}
 use Rattle.hex.specs.Hex.{encode_lower}
 use Rattle.md5.specs.Md5.{md5}
-use Rattle.repl.specs.Configuration.{Account, Configuration}
+use Rattle.repl.specs.Configuration.{Account, PassConfiguration}
 use Rattle.repl.specs.Shapes.{count_at, list_at, text_at}
 
 -- a session, and the sequence of the source up to which it came
@@ -45,9 +45,9 @@ checkpoint_in v =
 -- ---- the start
 
 -- the sequence of the first of these sessions that has this name
-abbrev pub sequence_of : List ℕ → List Session → Option ℕ
-sequence_of session [] = None
-sequence_of session (s ∷ ss) = if bytes_eq s.session session then Some s.sequence else sequence_of session ss
+abbrev pub sequence_of_session : List ℕ → List Session → Option ℕ
+sequence_of_session session [] = None
+sequence_of_session session (s ∷ ss) = if bytes_eq s.session session then Some s.sequence else sequence_of_session session ss
 
 -- the smaller of a number and another that was found; else the one that stands for none
 abbrev pub smaller_or : ℕ → ℕ → Option ℕ → ℕ
@@ -57,7 +57,7 @@ smaller_or n other (Some m) = min n m
 -- the smaller of the two sequences of the first of the source's sessions that the target has too; 0 if there is none
 abbrev pub common_sequence : List Session → List Session → ℕ
 common_sequence [] target = 0
-common_sequence (s ∷ ss) target = smaller_or s.sequence (common_sequence ss target) (sequence_of s.session target)
+common_sequence (s ∷ ss) target = smaller_or s.sequence (common_sequence ss target) (sequence_of_session s.session target)
 
 -- the start from two checkpoints
 abbrev pub start_from : Checkpoint → Checkpoint → ℕ
@@ -113,9 +113,9 @@ name_or_null None = null
 name_or_null (Some a) = text a.name
 
 -- what the id is taken of
-abbrev pub replication_value : Configuration → Value
+abbrev pub replication_value : PassConfiguration → Value
 replication_value c = array (item (text c.source) (item (text c.target) (item (name_or_null c.user) no_items)))
 
 -- the id under which each side keeps the checkpoint: an MD5 (RFC 1321) in lower-case hexadecimal
-abbrev pub checkpoint_id : Configuration → List ℕ
+abbrev pub checkpoint_id : PassConfiguration → List ℕ
 checkpoint_id c = encode_lower (md5 (canonical (replication_value c)))

@@ -15,7 +15,7 @@ pub record Account : Type 0 where
 
 -- a pass: the texts that name its two sides, the databases' names, its user, its session, and how many changes it lists at a
 -- time, where it doesn't list all at once
-pub record Configuration : Type 0 where
+pub record PassConfiguration : Type 0 where
   pub source : List ℕ
   pub source_db : List ℕ
   pub target : List ℕ
@@ -25,9 +25,9 @@ pub record Configuration : Type 0 where
   pub batch : Option ℕ
 
 -- the database of a side
-abbrev pub database_of : Configuration → Side → List ℕ
-database_of c Source = c.source_db
-database_of c Target = c.target_db
+abbrev pub database_of_side : PassConfiguration → Side → List ℕ
+database_of_side c Source = c.source_db
+database_of_side c Target = c.target_db
 
 -- a batch of so many changes: at least one, and at most 1,000
 abbrev pub batch_of : ℕ → Option ℕ
@@ -46,7 +46,7 @@ account_of u = record {
 }
 
 -- what the program is told
-abbrev pub configuration_of : Config → Configuration
+abbrev pub configuration_of : Config → PassConfiguration
 configuration_of c = record {
   source = string_bytes c.source;
   source_db = string_bytes c.source_db;

@@ -6,8 +6,8 @@ use Rattle.couch_json.specs.View.{items_of}
 use Rattle.couch_http.specs.Message.{Message}
 use Rattle.repl.specs.Calls.{Call, Revisions, read_checkpoint, write_checkpoint, list_changes, compare_revisions, open_revisions, push_documents, request_of}
 use Rattle.repl.specs.Checkpoints.{Checkpoint, checkpoint_id, history_of, next_checkpoint, start_of}
-use Rattle.repl.specs.Configuration.{Configuration}
-use Rattle.repl.specs.Replies.{Changes, Opened, Stored, changes_listed, checkpoint_read, checkpoint_written, differences_read, documents_of, documents_pushed, missing_reports, revisions_opened}
+use Rattle.repl.specs.Configuration.{PassConfiguration}
+use Rattle.repl.specs.Replies.{Changes, Opened, Stored, changes_listed, checkpoint_read, checkpoint_written, differences_read, documents_of_opened, documents_pushed, missing_reports, revisions_opened}
 use Rattle.couch_json.specs.Range.{greatest_count}
 use Rattle.repl.specs.declared.phase.Phase.{Phase}
 use Rattle.repl.specs.declared.phase.Phase.TheVariants.{ReadSource, ReadTarget, ListChanges, Compare, Open, Push, WriteSource, WriteTarget, RereadSource, RereadTarget, Done, Stopped}
@@ -18,7 +18,7 @@ use Rattle.repl.specs.declared.why.Why.TheVariants.{Lost}
 
 -- where a pass stands
 pub record Pass : Type 0 where
-  pub configuration : Configuration
+  pub configuration : PassConfiguration
   pub phase : Phase
   -- the checkpoint that the source had when the pass began, and the revisions of the two documents as last seen
   pub older : Option Checkpoint
@@ -42,7 +42,7 @@ pub record Pass : Type 0 where
   pub losses : ℕ
 
 -- a pass that has asked nothing
-abbrev pub first_pass : Configuration → Pass
+abbrev pub first_pass : PassConfiguration → Pass
 first_pass c = record {
   configuration = c;
   phase = ReadSource;
@@ -202,15 +202,15 @@ phase_with [] documents = phase_without_pending documents
 phase_with (r ∷ rs) documents = Open
 
 -- the target has said what it lacks
-abbrev pub with_differences : Pass → List Revisions → Pass
-with_differences p missing = record p { phase = phase_with missing p.documents; leaves = []; pending = missing }
+abbrev pub with_lacking : Pass → List Revisions → Pass
+with_lacking p missing = record p { phase = phase_with missing p.documents; leaves = []; pending = missing }
 
 -- the revisions of one document are read: those that are there wait for the push
 abbrev pub with_opened : Pass → List Opened → Pass
 with_opened p opened = record p {
-  phase = phase_with (drop 1 p.pending) (p.documents ++ documents_of opened);
+  phase = phase_with (drop 1 p.pending) (p.documents ++ documents_of_opened opened);
   pending = drop 1 p.pending;
-  documents = p.documents ++ documents_of opened;
+  documents = p.documents ++ documents_of_opened opened;
   refused = p.refused ++ missing_reports (first_of_pending p.pending).id opened;
 }
 
@@ -263,15 +263,14 @@ abbrev pub answered_in : Phase → Pass → ℕ → List ℕ → Pass
 answered_in ReadSource p status body = pass_after with_source p (checkpoint_read status body)
 answered_in ReadTarget p status body = pass_after with_target p (checkpoint_read status body)
 answered_in ListChanges p status body = pass_after with_changes p (changes_listed status body)
-answered_in Compare p status body = pass_after with_differences p (differences_read p.leaves status body)
+answered_in Compare p status body = pass_after with_lacking p (differences_read p.leaves status body)
 answered_in Open p status body = pass_after with_opened p (revisions_opened status body)
 answered_in Push p status body = pass_after with_failures p (documents_pushed status body)
 answered_in WriteSource p status body = pass_after with_source_written p (checkpoint_written status body)
 answered_in WriteTarget p status body = pass_after with_target_written p (checkpoint_written status body)
 answered_in RereadSource p status body = pass_after with_source_reread p (checkpoint_read status body)
 answered_in RereadTarget p status body = pass_after with_target_reread p (checkpoint_read status body)
-answered_in Done p status body = p
-answered_in (Stopped why) p status body = p
+answered_in ended p status body = p
 
 -- the pass after a reply
 abbrev pub answered_of : Pass → ℕ → List ℕ → Pass
@@ -281,18 +280,9 @@ answered_of p status body = answered_in p.phase p status body
 
 -- the same is asked again, but after a lost write of a checkpoint it is read
 abbrev pub phase_after_loss : Phase → Phase
-phase_after_loss ReadSource = ReadSource
-phase_after_loss ReadTarget = ReadTarget
-phase_after_loss ListChanges = ListChanges
-phase_after_loss Compare = Compare
-phase_after_loss Open = Open
-phase_after_loss Push = Push
 phase_after_loss WriteSource = RereadSource
 phase_after_loss WriteTarget = RereadTarget
-phase_after_loss RereadSource = RereadSource
-phase_after_loss RereadTarget = RereadTarget
-phase_after_loss Done = Done
-phase_after_loss (Stopped why) = Stopped why
+phase_after_loss phase = phase
 
 -- how many losses a pass bears
 abbrev pub most_losses : ℕ
@@ -306,18 +296,9 @@ with_loss p =
 
 -- what a lost reply makes of a pass in this phase
 abbrev pub lost_in : Phase → Pass → Pass
-lost_in ReadSource p = with_loss p
-lost_in ReadTarget p = with_loss p
-lost_in ListChanges p = with_loss p
-lost_in Compare p = with_loss p
-lost_in Open p = with_loss p
-lost_in Push p = with_loss p
-lost_in WriteSource p = with_loss p
-lost_in WriteTarget p = with_loss p
-lost_in RereadSource p = with_loss p
-lost_in RereadTarget p = with_loss p
 lost_in Done p = p
 lost_in (Stopped why) p = p
+lost_in phase p = with_loss p
 
 -- the pass after its request or the reply was lost
 abbrev pub lost_of : Pass → Pass

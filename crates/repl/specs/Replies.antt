@@ -3,9 +3,8 @@
 -- api/database/bulk-api. Members that are not named here are not looked at, but in the elements of `open_revs`.
 use Rattle.std.specs.Prelude.{ℕ, Bool, true, false, ◌==◌, ◌&&◌, List, [], ◌∷◌, Option, Some, None, option_map, option_and_then, unwrap_or, Result, Ok, Err, bytes_eq, is_some, if◌then◌else◌, codes}
 use Rattle.couch_json.specs.Parts.{has_only, is_object, is_there_and, members_in, text_in}
-use Rattle.couch_json.specs.Reading.{reading}
-use Rattle.couch_json.specs.Value.{Value, null, truth, whole, text, array, object, Members, no_members, member, member_of, put}
-use Rattle.couch_json.specs.declared.fault.JsonFault.{JsonFault}
+use Rattle.couch_json.specs.Reading.{reading, value_read}
+use Rattle.couch_json.specs.Value.{Value, null, text, object, Members, no_members, member, member_of, put}
 use Rattle.repl.specs.Calls.{Revisions}
 use Rattle.repl.specs.Checkpoints.{Checkpoint, checkpoint_in}
 use Rattle.repl.specs.Shapes.{count_at, list_at, list_in, text_at, texts_at}
@@ -16,11 +15,6 @@ use Rattle.repl.specs.declared.why.Why.TheVariants.{Status, Reply}
 abbrev pub said_or_reply : {A : Type 0} → Option A → Result A Why
 said_or_reply None = Err Reply
 said_or_reply (Some a) = Ok a
-
--- the value of a body
-abbrev pub value_read : Result Value JsonFault → Option Value
-value_read (Ok v) = Some v
-value_read (Err fault) = None
 
 -- the value of a body, if it is one
 abbrev pub value_in : List ℕ → Option Value
@@ -65,12 +59,12 @@ checkpoint_read status body =
     if status == 404 && is_missing body then Ok nothing_stored else said_at 200 stored_in status body
 
 -- the reply to a write of a checkpoint: the revision that it made
-abbrev pub revision_in : Value → Option (List ℕ)
-revision_in v = text_at (codes "rev") v
+abbrev pub revision_in_reply : Value → Option (List ℕ)
+revision_in_reply v = text_at (codes "rev") v
 
 -- the revision of a checkpoint that was written, or why it was not
 abbrev pub checkpoint_written : ℕ → List ℕ → Result (List ℕ) Why
-checkpoint_written status body = said_at 201 revision_in status body
+checkpoint_written status body = said_at 201 revision_in_reply status body
 
 -- ---- the changes
 
@@ -85,19 +79,19 @@ revisions_by id revisions = option_and_then (λ i. option_map (λ rs. record { i
 
 -- one change: a document and its leaves
 abbrev pub change_in : Value → Option Revisions
-change_in v = revisions_by (text_at (codes "id") v) (list_at (codes "changes") revision_in v)
+change_in v = revisions_by (text_at (codes "id") v) (list_at (codes "changes") revision_in_reply v)
 
 -- changes by their parts, where both were found
-abbrev pub changes_by : Option ℕ → Option (List Revisions) → Option Changes
-changes_by sequence leaves = option_and_then (λ n. option_map (λ ls. record { sequence = n; leaves = ls }) leaves) sequence
+abbrev pub changes_by_parts : Option ℕ → Option (List Revisions) → Option Changes
+changes_by_parts sequence leaves = option_and_then (λ n. option_map (λ ls. record { sequence = n; leaves = ls }) leaves) sequence
 
 -- the changes of a reply
-abbrev pub changes_in : Value → Option Changes
-changes_in v = changes_by (count_at (codes "last_seq") v) (list_at (codes "results") change_in v)
+abbrev pub changes_in_reply : Value → Option Changes
+changes_in_reply v = changes_by_parts (count_at (codes "last_seq") v) (list_at (codes "results") change_in v)
 
 -- the reply to a list of changes
 abbrev pub changes_listed : ℕ → List ℕ → Result Changes Why
-changes_listed status body = said_at 200 changes_in status body
+changes_listed status body = said_at 200 changes_in_reply status body
 
 -- ---- the differences
 
@@ -129,12 +123,12 @@ abbrev pub has_missing_lists : Value → Bool
 has_missing_lists v = is_there_and are_missing_lists (members_in v)
 
 -- what the target lacks, of the documents that were listed
-abbrev pub differences_in : List Revisions → Value → Option (List Revisions)
-differences_in listed v = if has_missing_lists v then Some (missing_of_each v listed) else None
+abbrev pub differences_in_reply : List Revisions → Value → Option (List Revisions)
+differences_in_reply listed v = if has_missing_lists v then Some (missing_of_each v listed) else None
 
 -- the reply to a comparison of these leaves
 abbrev pub differences_read : List Revisions → ℕ → List ℕ → Result (List Revisions) Why
-differences_read listed status body = said_at 200 (λ v. differences_in listed v) status body
+differences_read listed status body = said_at 200 (λ v. differences_in_reply listed v) status body
 
 -- ---- opened revisions
 
@@ -144,14 +138,14 @@ pub data Opened : Type 0 where
   missing : List ℕ → Opened
 
 -- a document of a reply, where it is an object
-abbrev pub document_by : Option Value → Option Opened
-document_by None = None
-document_by (Some v) = if is_object v then Some (document v) else None
+abbrev pub opened_by : Option Value → Option Opened
+opened_by None = None
+opened_by (Some v) = if is_object v then Some (document v) else None
 
 -- one element: an object of `ok` alone, or of `missing` alone
 abbrev pub opened_in : Value → Option Opened
 opened_in v =
-    if has_only (codes "ok" ∷ []) v then document_by (member_of v (codes "ok"))
+    if has_only (codes "ok" ∷ []) v then opened_by (member_of v (codes "ok"))
     else (if has_only (codes "missing" ∷ []) v then option_map missing (text_at (codes "missing") v) else None)
 
 -- the reply to opened revisions
@@ -159,10 +153,10 @@ abbrev pub revisions_opened : ℕ → List ℕ → Result (List Opened) Why
 revisions_opened status body = said_at 200 (λ v. list_in opened_in v) status body
 
 -- the documents among them
-abbrev pub documents_of : List Opened → List Value
-documents_of [] = []
-documents_of (document v ∷ os) = v ∷ documents_of os
-documents_of (missing rev ∷ os) = documents_of os
+abbrev pub documents_of_opened : List Opened → List Value
+documents_of_opened [] = []
+documents_of_opened (document v ∷ os) = v ∷ documents_of_opened os
+documents_of_opened (missing rev ∷ os) = documents_of_opened os
 
 -- what is reported of a revision that could not be opened
 abbrev pub missing_report : List ℕ → List ℕ → Value
@@ -180,11 +174,8 @@ missing_reports id (missing rev ∷ os) = missing_report id rev ∷ missing_repo
 -- a text, or nothing where null stands for it
 abbrev pub label_in : Value → Option (Option (List ℕ))
 label_in null = Some None
-label_in (truth b) = None
-label_in (whole n) = None
 label_in (text s) = Some (Some s)
-label_in (array vs) = None
-label_in (object ms) = None
+label_in v = None
 
 -- the same of a member, which has to be there
 abbrev pub label_at : List ℕ → Value → Option (Option (List ℕ))
@@ -196,19 +187,19 @@ label_value None = null
 label_value (Some s) = text s
 
 -- the rule that a failure names, if it names one
-abbrev pub rule_in : Option Value → Option (Option (List ℕ))
-rule_in None = Some None
-rule_in (Some v) = option_map (λ s. Some s) (text_in v)
+abbrev pub rule_in_reply : Option Value → Option (Option (List ℕ))
+rule_in_reply None = Some None
+rule_in_reply (Some v) = option_map (λ s. Some s) (text_in v)
 
 -- the members with the name of the rule, where one refused
-abbrev pub with_rule : Option (List ℕ) → Members → Members
-with_rule None ms = ms
-with_rule (Some rule) ms = put (codes "rule") (text rule) ms
+abbrev pub failure_with_rule : Option (List ℕ) → Members → Members
+failure_with_rule None ms = ms
+failure_with_rule (Some rule) ms = put (codes "rule") (text rule) ms
 
 -- what is reported of a document that could not be written
 abbrev pub failure_report : List ℕ → Option (List ℕ) → List ℕ → Option (List ℕ) → Option (List ℕ) → Value
 failure_report error id reason rev rule =
-    object (with_rule rule
+    object (failure_with_rule rule
     (put (codes "rev") (label_value rev)
     (put (codes "reason") (text reason)
     (put (codes "id") (label_value id)
@@ -219,7 +210,7 @@ abbrev pub failure_in : Value → Option Value
 failure_in v =
     option_and_then (λ error. option_and_then (λ id. option_and_then (λ reason. option_and_then (λ rev. option_map (λ rule.
     failure_report error id reason rev rule)
-    (rule_in (member_of v (codes "rule")))) (label_at (codes "rev") v)) (text_at (codes "reason") v)) (label_at (codes "id") v)) (text_at (codes "error") v)
+    (rule_in_reply (member_of v (codes "rule")))) (label_at (codes "rev") v)) (text_at (codes "reason") v)) (label_at (codes "id") v)) (text_at (codes "error") v)
 
 -- the reply to a push: the failures, in order
 abbrev pub documents_pushed : ℕ → List ℕ → Result (List Value) Why

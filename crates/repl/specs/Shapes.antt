@@ -11,8 +11,8 @@ count_of (pos n) = if nat_le n greatest_count then Some n else None
 count_of (negsuc n) = None
 
 -- a value that is a whole number from 0 to 2^63 - 1
-abbrev pub count_in : Value → Option ℕ
-count_in v = option_and_then (λ n. count_of n) (whole_in v)
+abbrev pub count_in_value : Value → Option ℕ
+count_in_value v = option_and_then (λ n. count_of n) (whole_in v)
 
 -- the text of a member
 abbrev pub text_at : List ℕ → Value → Option (List ℕ)
@@ -20,7 +20,7 @@ text_at name v = option_and_then (λ w. text_in w) (member_of v name)
 
 -- the count of a member
 abbrev pub count_at : List ℕ → Value → Option ℕ
-count_at name v = option_and_then (λ w. count_in w) (member_of v name)
+count_at name v = option_and_then (λ w. count_in_value w) (member_of v name)
 
 -- something, before others
 abbrev pub before : {A : Type 0} → Option A → Option (List A) → Option (List A)

@@ -59,18 +59,8 @@ told_of p (t ∷ ts) = told_at p t ++ told_of (after_turn p t) ts
 
 -- a reply in a phase is a list of changes, of the form that is expected
 abbrev pub lists_in : Phase → ℕ → List ℕ → Bool
-lists_in ReadSource status body = false
-lists_in ReadTarget status body = false
 lists_in ListChanges status body = is_ok (changes_listed status body)
-lists_in Compare status body = false
-lists_in Open status body = false
-lists_in Push status body = false
-lists_in WriteSource status body = false
-lists_in WriteTarget status body = false
-lists_in RereadSource status body = false
-lists_in RereadTarget status body = false
-lists_in Done status body = false
-lists_in (Stopped why) status body = false
+lists_in phase status body = false
 
 -- the turn brings a list of changes
 abbrev pub lists_at : Pass → Turn → Bool

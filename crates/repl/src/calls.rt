@@ -5,9 +5,9 @@ ghost use Rattle.std.specs.List.{join_with_byte};
 ghost use Rattle.couch_json.specs.Canonical.{canonical};
 ghost use Rattle.couch_json.specs.View.{view};
 ghost use Rattle.couch_http.specs.Message.{header_field, message_of};
-ghost use Rattle.repl.specs.Calls.{account_fields, changes_query, limit_part, compare_revisions, open_revisions, push_documents, headers_of};
-ghost use Rattle.repl.specs.Calls.{path_of, read_checkpoint, list_changes, request_of, request_with, write_checkpoint};
-ghost use Rattle.repl.specs.Configuration.{account_of, batch_size, configuration_of, database_of};
+ghost use Rattle.repl.specs.Calls.{account_fields, changes_call_query, limit_part, compare_revisions, open_revisions, push_documents, headers_of};
+ghost use Rattle.repl.specs.Calls.{page_path, read_checkpoint, list_changes, request_of, request_with, write_checkpoint};
+ghost use Rattle.repl.specs.Configuration.{account_of, batch_size, configuration_of, database_of_side};
 ghost use Rattle.repl.specs.inner.Joined.{after_commas};
 ghost use Rattle.repl.specs.Listed.{revisions_of};
 ghost use Rattle.repl.specs.Spelling.{segment};
@@ -74,7 +74,7 @@ pub fn list_changes(alloc: Global, config: &Config, side: Side, since: u64) -> G
 
 /// Makes the query that lists the changes after a sequence.
 fn changes_query(alloc: Global, since: u64, batch: Option<Batch>) -> Got<String>
-    ensures { IfOk result (λ query. string_bytes query ≡ changes_query since (option_map batch_size batch)) }
+    ensures { IfOk result (λ query. string_bytes query ≡ changes_call_query since (option_map batch_size batch)) }
 {
     let mut query = format!(in alloc; "since={since}&style=all_docs")?;
     push_limit(&mut query, batch)?;
@@ -171,7 +171,7 @@ fn request(
 
 /// Returns the name of the database of a side.
 fn database(config: &Config, side: Side) -> &str
-    ensures { result.now ≡ database_of (configuration_of config.now) side }
+    ensures { result.now ≡ database_of_side (configuration_of config.now) side }
 {
     match side {
         Side::Source => config.source_db.as_str(),
@@ -181,7 +181,7 @@ fn database(config: &Config, side: Side) -> &str
 
 /// Makes the path of a page of a database.
 fn path(alloc: Global, db: &str, page: &str) -> Got<String>
-    ensures { IfOk result (λ path. string_bytes path ≡ path_of db.now page.now) }
+    ensures { IfOk result (λ path. string_bytes path ≡ page_path db.now page.now) }
 {
     let mut path = String::from_str(alloc, "/")?;
     push_segment(&mut path, db)?;

@@ -7,7 +7,7 @@ ghost use Rattle.md5.specs.Md5.{md5};
 ghost use Rattle.couch_json.specs.Canonical.{canonical};
 ghost use Rattle.couch_json.specs.View.{members_view, view};
 ghost use Rattle.repl.specs.Checkpoints.{Session, checkpoint_id, checkpoint_in, common_sequence, history_of, name_or_null, next_checkpoint, next_history};
-ghost use Rattle.repl.specs.Checkpoints.{others_of, replication_value, sequence_of, session_in, session_value, start_from, start_of, with_revision};
+ghost use Rattle.repl.specs.Checkpoints.{others_of, replication_value, sequence_of_session, session_in, session_value, start_from, start_of, with_revision};
 ghost use Rattle.repl.specs.Configuration.{account_of, configuration_of};
 ghost use Rattle.repl.specs.Kept.{checkpoint_of, sequence_at, session_of};
 ghost use Rattle.repl.specs.Shapes.{count_at, list_at, list_in, text_at};
@@ -156,7 +156,7 @@ fn sequence_at(index: &BTreeMap<String, Count>, name: &str) -> Option<Count>
 
 /// Makes an index of sessions: for each name the sequence of the first one.
 fn index_sessions(alloc: Global, sessions: &[KeptSession]) -> Got<BTreeMap<String, Count>>
-    ensures { IfOk result (λ index. (name : List ℕ) → sequence_at index name ≡ sequence_of name (map session_of sessions.now)) }
+    ensures { IfOk result (λ index. (name : List ℕ) → sequence_at index name ≡ sequence_of_session name (map session_of sessions.now)) }
 {
     let mut index = BTreeMap::new(alloc);
     for session in sessions {
@@ -168,7 +168,7 @@ fn index_sessions(alloc: Global, sessions: &[KeptSession]) -> Got<BTreeMap<Strin
 /// Adds a session to an index, unless one of its name is there.
 fn add_session(index: &mut BTreeMap<String, Count>, session: &KeptSession) -> Got<()>
     ensures { OnOk result ((name : List ℕ) → sequence_at index.new name
-        ≡ option_or (sequence_at index.old name) (sequence_of name (session_of session.now ∷ []))) }
+        ≡ option_or (sequence_at index.old name) (sequence_of_session name (session_of session.now ∷ []))) }
 {
     match sequence_at(index, session.session.as_str()) {
         Some(_) => Ok(()),

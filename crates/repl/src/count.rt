@@ -2,7 +2,7 @@ ghost use Rattle.std.specs.Prelude.{◌≡◌, ◌<◌, ◌^◌, ◌+◌, min, n
 ghost use Rattle.couch_json.specs.Value.{whole};
 ghost use Rattle.couch_json.specs.View.{view};
 ghost use Rattle.couch_json.specs.Range.{greatest_count};
-ghost use Rattle.repl.specs.Shapes.{count_in, count_of};
+ghost use Rattle.repl.specs.Shapes.{count_in_value, count_of};
 
 use couch_json::{Json, Number};
 
@@ -19,7 +19,7 @@ impl Count {
 
     /// Reads a count, where the value is one.
     pub fn read(value: &Json) -> Option<Count>
-        ensures { option_map (λ c. c.value) result ≡ count_in (view value.now) }
+        ensures { option_map (λ c. c.value) result ≡ count_in_value (view value.now) }
     {
         match value {
             Json::Whole(number) => Count::of(*number),

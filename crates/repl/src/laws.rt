@@ -4,7 +4,7 @@ ghost use Rattle.std.specs.Prelude.{◌≡◌, ◌<◌, ℕ, List, not, All, if�
 ghost use Rattle.percent_encoding.specs.AsciiSet.{contains};
 ghost use Rattle.percent_encoding.specs.Percent.{percent_decode};
 ghost use Rattle.repl.specs.Causes.{HasCause};
-ghost use Rattle.repl.specs.Configuration.{Configuration};
+ghost use Rattle.repl.specs.Configuration.{PassConfiguration};
 ghost use Rattle.repl.specs.Passes.{first_pass};
 ghost use Rattle.repl.specs.Spelling.{is_unreserved, reserved_bytes, segment};
 ghost use Rattle.repl.specs.Turns.{Turn, after_turns, has_listed, replies_in, start_by, told_of};
@@ -23,19 +23,19 @@ pub fn segments_read_back()
 
 /// A pass reports what the replies that it took in say, in order, also if it has stopped.
 pub fn reports_are_told()
-    ensures { (c : Configuration) (ts : List Turn) → (after_turns (first_pass c) ts).refused ≡ told_of (first_pass c) ts }
+    ensures { (c : PassConfiguration) (ts : List Turn) → (after_turns (first_pass c) ts).refused ≡ told_of (first_pass c) ts }
 {}
 
 /// Once a list of changes was taken in, the start is that of the first two replies, which are the
 /// checkpoints of the two sides; before, it is 0. This is so of a pass that has stopped, too.
 pub fn start_is_that_of_the_checkpoints()
-    ensures { (c : Configuration) (ts : List Turn) → (after_turns (first_pass c) ts).start_seq
+    ensures { (c : PassConfiguration) (ts : List Turn) → (after_turns (first_pass c) ts).start_seq
         ≡ (if has_listed (first_pass c) ts then start_by (replies_in ts) else 0) }
 {}
 
 /// A pass that has stopped met the cause at one of its turns: a reply of a status that is not expected,
 /// a reply of an expected status whose body has not the shape, or the 101st loss.
 pub fn stops_have_causes()
-    ensures { (c : Configuration) (ts : List Turn) (why : Why) → (after_turns (first_pass c) ts).phase ≡ Stopped why
+    ensures { (c : PassConfiguration) (ts : List Turn) (why : Why) → (after_turns (first_pass c) ts).phase ≡ Stopped why
         → HasCause (first_pass c) why ts }
 {}

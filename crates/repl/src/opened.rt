@@ -3,8 +3,8 @@
 ghost use Rattle.std.specs.Prelude.{◌≡◌, ◌++◌, [], IfOk, OnOk, map, option_and_then, option_copied, option_map, string_bytes, codes, unwrap_or};
 ghost use Rattle.couch_json.specs.View.{members_view, view};
 ghost use Rattle.repl.specs.Listed.{revisions_of};
-ghost use Rattle.repl.specs.Replies.{Opened, are_missing_lists, differences_in, differences_read, has_missing_lists, missing_in, missing_of};
-ghost use Rattle.repl.specs.Replies.{missing_of_each, missing_report, opened_in, revisions_opened, unless_empty, document_by, missing};
+ghost use Rattle.repl.specs.Replies.{Opened, are_missing_lists, differences_in_reply, differences_read, has_missing_lists, missing_in, missing_of};
+ghost use Rattle.repl.specs.Replies.{missing_of_each, missing_report, opened_in, revisions_opened, unless_empty, opened_by, missing};
 ghost use Rattle.repl.specs.Shapes.{list_in, text_at};
 ghost use Rattle.repl.specs.Taken.{opened_of, said_as};
 
@@ -53,7 +53,7 @@ fn differences_in(
     value: &Json,
 ) -> Got<Option<VecDeque<DocumentRevisions>>>
     ensures { IfOk result (λ missing. option_map (λ rs. map revisions_of rs.items) missing
-        ≡ differences_in (map revisions_of listed.now) (view value.now)) }
+        ≡ differences_in_reply (map revisions_of listed.now) (view value.now)) }
 {
     if !has_missing_lists(alloc, value)? {
         return Ok(None);
@@ -188,7 +188,7 @@ impl Shape for OpenedShape {
 
 /// Copies the document of an opened revision.
 fn document_in(alloc: Global, value: Option<&Json>) -> Got<Option<OpenedRevision>>
-    ensures { IfOk result (λ opened. option_map opened_of opened ≡ document_by (option_map (λ v. view v.now) value.entry)) }
+    ensures { IfOk result (λ opened. option_map opened_of opened ≡ opened_by (option_map (λ v. view v.now) value.entry)) }
 {
     match value {
         Some(value) => {

@@ -2,7 +2,7 @@
 
 ghost use Rattle.std.specs.Prelude.{◌≡◌, ◌++◌, ◌∷◌, [], IfOk, OnOk, OnErr, map};
 ghost use Rattle.couch_json.specs.View.{view};
-ghost use Rattle.repl.specs.Replies.{documents_of, missing_reports};
+ghost use Rattle.repl.specs.Replies.{documents_of_opened, missing_reports};
 ghost use Rattle.repl.specs.Taken.{opened_of};
 
 use crate::opened::{OpenedRevision, missing_report};
@@ -11,7 +11,7 @@ use std::alloc::Global;
 
 /// Copies the documents among opened revisions.
 pub fn documents_of(alloc: Global, opened: &[OpenedRevision]) -> Got<Vec<Json>>
-    ensures { IfOk result (λ ds. map view ds.items ≡ documents_of (map opened_of opened.now)) }
+    ensures { IfOk result (λ ds. map view ds.items ≡ documents_of_opened (map opened_of opened.now)) }
 {
     let mut documents = Vec::new(alloc);
     for revision in opened {
@@ -22,7 +22,7 @@ pub fn documents_of(alloc: Global, opened: &[OpenedRevision]) -> Got<Vec<Json>>
 
 /// Adds the document of an opened revision, if it has one.
 fn push_document(alloc: Global, documents: &mut Vec<Json>, revision: &OpenedRevision) -> Got<()>
-    ensures { OnOk result (map view documents.new.items ≡ map view documents.old.items ++ documents_of (opened_of revision.now ∷ [])) }
+    ensures { OnOk result (map view documents.new.items ≡ map view documents.old.items ++ documents_of_opened (opened_of revision.now ∷ [])) }
 {
     match revision {
         OpenedRevision::Document(document) => {

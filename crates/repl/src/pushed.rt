@@ -3,7 +3,7 @@
 ghost use Rattle.std.specs.Prelude.{◌≡◌, IfOk, OnOk, map, option_copied, option_map};
 ghost use Rattle.couch_json.specs.Value.{Value, put};
 ghost use Rattle.couch_json.specs.View.{members_view, view};
-ghost use Rattle.repl.specs.Replies.{documents_pushed, failure_in, failure_report, label_value, with_rule};
+ghost use Rattle.repl.specs.Replies.{documents_pushed, failure_in, failure_report, label_value, failure_with_rule};
 ghost use Rattle.repl.specs.Shapes.{list_in};
 ghost use Rattle.repl.specs.Taken.{said_as};
 
@@ -105,7 +105,7 @@ fn put_label(alloc: Global, members: &mut NameMap<Json>, name: &str, label: Opti
 /// Puts the rule, if there is one.
 fn put_rule(alloc: Global, members: &mut NameMap<Json>, rule: Option<&str>) -> Got<()>
     ensures { OnOk result (members_view members.new.entries
-        ≡ with_rule (option_copied rule.entry) (members_view members.old.entries)) }
+        ≡ failure_with_rule (option_copied rule.entry) (members_view members.old.entries)) }
 {
     match rule {
         Some(rule) => put_text(alloc, members, "rule", rule),

@@ -4,7 +4,8 @@ ghost use Rattle.std.specs.Prelude.{◌≡◌, IfOk, map, option_map, string_byt
 ghost use Rattle.couch_json.specs.View.{members_view, view};
 ghost use Rattle.repl.specs.Kept.{checkpoint_of};
 ghost use Rattle.repl.specs.Listed.{revisions_of};
-ghost use Rattle.repl.specs.Replies.{change_in, changes_in, changes_listed, checkpoint_read, checkpoint_written, is_missing, revision_in, stored_in, value_in};
+ghost use Rattle.repl.specs.Replies.{change_in, changes_in_reply, changes_listed, checkpoint_read, checkpoint_written, is_missing, revision_in_reply};
+ghost use Rattle.repl.specs.Replies.{stored_in, value_in};
 ghost use Rattle.repl.specs.Shapes.{list_at};
 ghost use Rattle.repl.specs.Taken.{changes_of, said_as, stored_of};
 
@@ -108,7 +109,7 @@ pub fn checkpoint_written(alloc: Global, status: u16, body: &[u8]) -> Got<Result
 
 /// Reads the revision that a write made.
 fn revision_in(alloc: Global, value: &Json) -> Got<Option<String>>
-    ensures { IfOk result (λ revision. option_map string_bytes revision ≡ revision_in (view value.now)) }
+    ensures { IfOk result (λ revision. option_map string_bytes revision ≡ revision_in_reply (view value.now)) }
 {
     match text_at(value, "rev") {
         Some(revision) => Ok(Some(String::from_str(alloc, revision)?)),
@@ -131,7 +132,7 @@ pub fn changes_listed(alloc: Global, status: u16, body: &[u8]) -> Got<Result<Cha
 
 /// Reads a list of changes.
 fn listing_in(alloc: Global, value: &Json) -> Got<Option<ChangesListed>>
-    ensures { IfOk result (λ changes. option_map changes_of changes ≡ changes_in (view value.now)) }
+    ensures { IfOk result (λ changes. option_map changes_of changes ≡ changes_in_reply (view value.now)) }
 {
     let Some(sequence) = count_at(value, "last_seq") else {
         return Ok(None);

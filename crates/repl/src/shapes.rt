@@ -6,7 +6,7 @@ ghost use Rattle.couch_json.specs.Value.{member_of};
 ghost use Rattle.couch_json.specs.View.{items_view, view};
 ghost use Rattle.repl.specs.Calls.{Revisions};
 ghost use Rattle.repl.specs.Listed.{revisions_of};
-ghost use Rattle.repl.specs.Replies.{change_in, label_at, label_in, missing_in, revision_in, rule_in};
+ghost use Rattle.repl.specs.Replies.{change_in, label_at, label_in, missing_in, revision_in_reply, rule_in_reply};
 ghost use Rattle.repl.specs.Shapes.{list_at, texts_at};
 
 use crate::element::{Shape, read_each};
@@ -81,7 +81,7 @@ impl Shape for ChangeShape {
 
 /// Reads the leaves of a change.
 fn leaves_in(alloc: Global, value: &Json) -> Got<Option<Vec<String>>>
-    ensures { IfOk result (λ leaves. option_map (λ ls. map string_bytes ls.items) leaves ≡ list_at (codes "changes") revision_in (view value.now)) }
+    ensures { IfOk result (λ leaves. option_map (λ ls. map string_bytes ls.items) leaves ≡ list_at (codes "changes") revision_in_reply (view value.now)) }
 {
     match items_at(value, "changes") {
         Some(items) => read_each::<LeafShape>(alloc, items),
@@ -99,7 +99,7 @@ impl Shape for LeafShape {
 
     ghost said = { string_bytes };
 
-    ghost said_in = { revision_in };
+    ghost said_in = { revision_in_reply };
 
     fn read(alloc: Global, value: &Json) -> Got<Option<String>> {
         match text_at(value, "rev") {
@@ -132,7 +132,7 @@ fn label_in(value: &Json) -> Option<Option<&str>>
 
 /// Returns the rule that a failure names, if it names one.
 pub fn rule_in(value: Option<&Json>) -> Option<Option<&str>>
-    ensures { option_map option_copied result ≡ rule_in (option_map (λ v. view v.now) value.entry) }
+    ensures { option_map option_copied result ≡ rule_in_reply (option_map (λ v. view v.now) value.entry) }
 {
     match value {
         None => Some(None),

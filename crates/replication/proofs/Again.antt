@@ -4,23 +4,23 @@ use Rattle.std.specs.List.{AllByRecursion}
 use Rattle.couch_http.specs.Message.{Message}
 use Rattle.couch_http.specs.Reply.{Reply}
 use Rattle.store.specs.Contents.{Contents}
-use Rattle.node.specs.Runs.{IsServed, Steps}
+use Rattle.node.specs.Runs.{IsServedReply, Steps}
 use Rattle.node.specs.Step.{Serving}
 use Rattle.hub.specs.Arrival.{Arrival, fault_on, request_on}
-use Rattle.repl.specs.Passes.{Asked, Pass, to_source, to_target, done, stopped_by, asked_of}
+use Rattle.repl.specs.Passes.{Asked, to_source, to_target, done, stopped_by, asked_of}
 use Rattle.repl.specs.Turns.{Turn}
-use Rattle.world.specs.Exchanging.{IsAskedBy, IsCarriedBy}
+use Rattle.world.specs.Exchanging.{IsAsked, IsCarried, Question, question_to_source, question_to_target}
 use Rattle.world.specs.Happening.{Happening, Sight, comes, exchanges}
 use Rattle.world.specs.Keeping.{Keeping, StaysAt}
-use Rattle.world.specs.Network.{Network, Transfer, home_of}
-use Rattle.world.specs.Playing.{HappensBy, PlaysBy}
-use Rattle.world.specs.Service.{Asker, HandlingOf, IsAnsweredBy, IsHandled, IsServiceBy, SeenReply, by_pass, on_connection}
+use Rattle.world.specs.Network.{Network, Transfer, node_of_connection}
+use Rattle.world.specs.Playing.{Happens, Plays}
+use Rattle.world.specs.Service.{Asker, Handling, IsAnswered, IsHandled, IsService, SeenReply, alike, by_pass, on_connection}
 use Rattle.world.specs.declared.fate.Fate.{Fate}
 use Rattle.world.specs.declared.fate.Fate.TheVariants.{Answered, ReplyLost, RequestLost}
 use Rattle.replication.specs.Finished.{ListsLastIn, takes_list}
 use Rattle.replication.specs.Parted.{Serves}
 use Rattle.replication.specs.Requests.{Handled, IsSameRun, RunsThatKeep, RunsThatServe, handled_answer, handled_asked, handled_at, handled_carry, handled_in, handled_service}
-use Rattle.replication.specs.Runs.{Run, pass_at, turn_of, turns_asked, turns_at, turns_in}
+use Rattle.replication.specs.Runs.{Run, pass_at, turns_asked, turns_at, turns_in}
 
 pub front : {A : Type 0} (P : A → Type 0) (xs ys : List A) → AllByRecursion P (xs ++ ys) → AllByRecursion P xs
 front P [] ys h = tt
@@ -30,16 +30,16 @@ pub back : {A : Type 0} (P : A → Type 0) (xs ys : List A) → AllByRecursion P
 back P [] ys h = h
 back P (x ∷ xs) ys h = back P xs ys h.1
 
-module _ {S : Type 0} (handling other : HandlingOf S) (Q : Handled S → Type 0)
+module _ {S : Type 0} (handling other : Handling S) (Q : Handled S → Type 0)
     (each : (who : Asker) (old : List (Serving S)) (place : ℕ) (m : Message) (r : Reply) (new : List (Serving S)) → handling who old place m r new
     → Q (record { who = who; old = old; place = place; message = m; reply = r; new = new }) → other who old place m r new) where
-  answer_again : (homes : List ℕ) (old : List (Serving S)) (a : Arrival) (t : SeenReply) (new : List (Serving S)) (p : IsAnsweredBy handling homes old a t new)
-      → AllByRecursion Q (handled_answer handling homes old a t new p) → IsAnsweredBy other homes old a t new
-  answer_again homes old (request_on conn m) t new p h = (p.0, each (on_connection conn) old (home_of homes conn) m t.reply new p.1 h.0)
+  answer_again : (homes : List ℕ) (old : List (Serving S)) (a : Arrival) (t : SeenReply) (new : List (Serving S)) (p : IsAnswered handling homes old a t new)
+      → AllByRecursion Q (handled_answer handling homes old a t new p) → IsAnswered other homes old a t new
+  answer_again homes old (request_on conn m) t new p h = (p.0, each (on_connection conn) old (node_of_connection homes conn) m t.reply new p.1 h.0)
   answer_again homes old (fault_on conn f) t new p h = p
 
-  service_again : (homes : List ℕ) (old : List (Serving S)) (ars : List Arrival) (ts : List SeenReply) (new : List (Serving S)) (p : IsServiceBy handling homes old ars ts new)
-      → AllByRecursion Q (handled_service handling homes old ars ts new p) → IsServiceBy other homes old ars ts new
+  service_again : (homes : List ℕ) (old : List (Serving S)) (ars : List Arrival) (ts : List SeenReply) (new : List (Serving S)) (p : IsService handling homes old ars ts new)
+      → AllByRecursion Q (handled_service handling homes old ars ts new p) → IsService other homes old ars ts new
   service_again homes old [] [] new p h = p
   service_again homes old [] (t ∷ ts) new p h = absurd p
   service_again homes old (a ∷ ars) [] new p h = absurd p
@@ -48,40 +48,34 @@ module _ {S : Type 0} (handling other : HandlingOf S) (Q : Handled S → Type 0)
       let rest = handled_service handling homes between ars ts new later in
       (between, answer_again homes old a t between here (front Q rs rest h), service_again homes between ars ts new later (back Q rs rest h))
 
-  carried_again : (number : ℕ) (fate : Fate) (old : List (Serving S)) (place : ℕ) (m : Message) (before : Pass) (status : ℕ) (new : List (Serving S)) (after : Pass)
-      → (c : IsCarriedBy (handling (by_pass number fate)) fate old place m before status new after) → AllByRecursion Q (handled_carry handling number fate old place m before status new after c)
-      → (d : IsCarriedBy (other (by_pass number fate)) fate old place m before status new after)
-      × (turn_of (other (by_pass number fate)) fate old place m before status new after d ≡ turn_of (handling (by_pass number fate)) fate old place m before status new after c)
-  carried_again number Answered old place m before status new after c h =
-      (record { reply = c.reply; handled = each (by_pass number Answered) old place m c.reply new c.handled h.0; outcome = c.outcome }, refl)
-  carried_again number ReplyLost old place m before status new after c h =
-      (record { reply = c.reply; handled = each (by_pass number ReplyLost) old place m c.reply new c.handled h.0; outcome = c.outcome }, refl)
-  carried_again number RequestLost old place m before status new after c h = (c, refl)
+  carried_again : (fate : Fate) (old : List (Serving S)) (q : Question) (t : Turn) (new : List (Serving S)) (c : IsCarried handling fate old q t new)
+      → AllByRecursion Q (handled_carry handling fate old q t new c) → IsCarried other fate old q t new
+  carried_again Answered old q t new c h = (c.0, each (by_pass q.number Answered) old q.place q.message c.0 new c.1 h.0, c.2)
+  carried_again ReplyLost old q t new c h = (c.0, each (by_pass q.number ReplyLost) old q.place q.message c.0 new c.1 h.0, c.2)
+  carried_again RequestLost old q t new c h = c
 
-  asked_again : (fate : Fate) (old : Network S) (number : ℕ) (t : Transfer) (asked : Asked) (seen : List Sight) (new : Network S) (p : IsAskedBy handling fate old number t asked seen new)
+  asked_again : (fate : Fate) (old : Network S) (number : ℕ) (t : Transfer) (asked : Asked) (seen : List Sight) (new : Network S) (p : IsAsked handling fate old number t asked seen new)
       → AllByRecursion Q (handled_asked handling fate old number t asked seen new p)
-      → (q : IsAskedBy other fate old number t asked seen new) × (turns_asked other fate old number t asked seen new q ≡ turns_asked handling fate old number t asked seen new p)
+      → (q : IsAsked other fate old number t asked seen new) × (turns_asked other fate old number t asked seen new q ≡ turns_asked handling fate old number t asked seen new p)
   asked_again fate old number t (to_source m) seen new p h =
-      let d = carried_again number fate old.nodes t.from m t.pass p.status p.nodes p.after p.carried h in
-      (record { status = p.status; nodes = p.nodes; after = p.after; carried = d.0; sight = p.sight; left = p.left }, ap (λ (x : Turn). x ∷ []) d.1)
+      (record { turn = p.turn; nodes = p.nodes; carried = carried_again fate old.nodes (question_to_source number t m) p.turn p.nodes p.carried h; sight = p.sight; left = p.left }, refl)
   asked_again fate old number t (to_target m) seen new p h =
-      let d = carried_again number fate old.nodes t.to m t.pass p.status p.nodes p.after p.carried h in
-      (record { status = p.status; nodes = p.nodes; after = p.after; carried = d.0; sight = p.sight; left = p.left }, ap (λ (x : Turn). x ∷ []) d.1)
+      (record { turn = p.turn; nodes = p.nodes; carried = carried_again fate old.nodes (question_to_target number t m) p.turn p.nodes p.carried h; sight = p.sight; left = p.left }, refl)
   asked_again fate old number t (done s) seen new p h = (p, refl)
   asked_again fate old number t (stopped_by why s) seen new p h = (p, refl)
 
   -- an event of the other kind, with the same turns
-  abbrev EventAgain : (h : Happening) (old : Network S) (seen : List Sight) (new : Network S) → HappensBy handling old h seen new → Type 0
-  EventAgain h old seen new p = (q : HappensBy other old h seen new) × ((n : ℕ) → turns_at other n h old seen new q ≡ turns_at handling n h old seen new p)
+  abbrev EventAgain : (h : Happening) (old : Network S) (seen : List Sight) (new : Network S) → Happens handling old h seen new → Type 0
+  EventAgain h old seen new p = (q : Happens other old h seen new) × ((n : ℕ) → turns_at other n h old seen new q ≡ turns_at handling n h old seen new p)
 
-  event_again : (h : Happening) (old : Network S) (seen : List Sight) (new : Network S) (p : HappensBy handling old h seen new) → AllByRecursion Q (handled_at handling h old seen new p)
+  event_again : (h : Happening) (old : Network S) (seen : List Sight) (new : Network S) (p : Happens handling old h seen new) → AllByRecursion Q (handled_at handling h old seen new p)
       → EventAgain h old seen new p
   event_again (comes piece) old seen new (told, played, same) h = (
     (
       told,
       record {
         arrivals = played.arrivals;
-        arrived = played.arrived;
+        brought = played.brought;
         served = service_again old.homes old.nodes played.arrivals told new.nodes played.served h;
         homes = played.homes;
         transfers = played.transfers;
@@ -96,10 +90,10 @@ module _ {S : Type 0} (handling other : HandlingOf S) (Q : Handled S → Type 0)
         λ n. ap (λ (ts : List Turn). cond (number == n) ts []) q.1,
       )
 
-  abbrev PlaysAgain : (hs : List Happening) (old : Network S) (seen : List Sight) (new : Network S) → PlaysBy handling old hs seen new → Type 0
-  PlaysAgain hs old seen new p = (q : PlaysBy other old hs seen new) × ((n : ℕ) → turns_in other n hs old seen new q ≡ turns_in handling n hs old seen new p)
+  abbrev PlaysAgain : (hs : List Happening) (old : Network S) (seen : List Sight) (new : Network S) → Plays handling old hs seen new → Type 0
+  PlaysAgain hs old seen new p = (q : Plays other old hs seen new) × ((n : ℕ) → turns_in other n hs old seen new q ≡ turns_in handling n hs old seen new p)
 
-  pub plays_again : (hs : List Happening) (old : Network S) (seen : List Sight) (new : Network S) (p : PlaysBy handling old hs seen new) → AllByRecursion Q (handled_in handling hs old seen new p)
+  pub plays_again : (hs : List Happening) (old : Network S) (seen : List Sight) (new : Network S) (p : Plays handling old hs seen new) → AllByRecursion Q (handled_in handling hs old seen new p)
       → PlaysAgain hs old seen new p
   plays_again [] old seen new p h = (p, λ n. refl)
   plays_again (h ∷ hs) old seen new (first, others, between, here, later, order) k =
@@ -112,7 +106,7 @@ module _ {S : Type 0} (handling other : HandlingOf S) (Q : Handled S → Type 0)
       )
 
   -- its last list is of the same network
-  pub lists_again : (n : ℕ) (hs : List Happening) (old : Network S) (seen : List Sight) (new : Network S) (p : PlaysBy handling old hs seen new) (k : AllByRecursion Q (handled_in handling hs old seen new p))
+  pub lists_again : (n : ℕ) (hs : List Happening) (old : Network S) (seen : List Sight) (new : Network S) (p : Plays handling old hs seen new) (k : AllByRecursion Q (handled_in handling hs old seen new p))
       (listed : Network S) → ListsLastIn handling n hs old seen new p listed → ListsLastIn other n hs old seen new (plays_again hs old seen new p k).0 listed
   unfolding plays_again event_again
   lists_again n [] old seen new p k listed l = absurd l
@@ -139,8 +133,8 @@ pub keeping : (t : Transfer) (who : Asker) (a : List (Serving Contents)) (place 
 keeping t who a place m r b handled stays = (handled, stays.0, stays.1)
 
 pub that_keep : RunsThatKeep
-that_keep t old new run h = run_again (λ who. IsHandled Steps) (Keeping t) (Stays t) (keeping t) old new run h
+that_keep t old new run h = run_again (alike Steps) (Keeping t) (Stays t) (keeping t) old new run h
 
 pub that_serve : RunsThatServe
 that_serve old new run h =
-    run_again (λ who. IsHandled Steps) (Serves Steps) (λ r. IsServed r.reply) (λ who a place m r b handled served. (handled, served)) old new run h
+    run_again (alike Steps) (Serves Steps) (λ r. IsServedReply r.reply) (λ who a place m r b handled served. (handled, served)) old new run h

@@ -24,7 +24,7 @@ use Rattle.replication.specs.Runs.{pass_at}
 use Rattle.replication.proofs.Keepings.{all_lawful, lawful_at}
 use Rattle.replication.proofs.Settlements.{done_has_listed_in_courses, rounds_in_courses}
 use Rattle.replication.specs.Agreement.{HaveSameTree}
-use Rattle.replication.specs.CaughtUp.{AreCopied, HasCaughtUp, HasCopied, HasUpTo, OnePassCatchesUp, QuietNetworksAgree, QuietRingsAgree, Site, database_of}
+use Rattle.replication.specs.CaughtUp.{AreCopied, HasCaughtUp, HasCopied, HasUpTo, OnePassCatchesUp, QuietNetworksAgree, QuietRingsAgree, Site, database_at_site}
 use Rattle.replication.specs.Groups.{Group}
 use Rattle.replication.specs.Ways.{HasAllOf, HaveSameTrees, IsWay}
 use Rattle.replication.proofs.Crossings.{known_or_none}
@@ -36,16 +36,16 @@ use Rattle.replication.proofs.Ways.{all_through, rings_meet, way_by, way_through
 abbrev stay_here : (now : Network Contents) → Course Steps now now
 stay_here now = record { stages = []; goes = refl }
 
-source_at : (now : Network Contents) (a b : Site) (from to : ℕ) (h : HasCopied now a b from to) → source_of h.transfer now ≡ database_of now a
+source_at : (now : Network Contents) (a b : Site) (from to : ℕ) (h : HasCopied now a b from to) → source_of h.transfer now ≡ database_at_site now a
 source_at now a b from to h =
     ap (λ (n : ℕ). database_at now.nodes n h.transfer.pass.configuration.source_db) h.leads.from ∙ ap (λ (l : List ℕ). database_at now.nodes a.place l) h.leads.source
 
-target_at : (now : Network Contents) (a b : Site) (from to : ℕ) (h : HasCopied now a b from to) → target_of h.transfer now ≡ database_of now b
+target_at : (now : Network Contents) (a b : Site) (from to : ℕ) (h : HasCopied now a b from to) → target_of h.transfer now ≡ database_at_site now b
 target_at now a b from to h =
     ap (λ (n : ℕ). database_at now.nodes n h.transfer.pass.configuration.target_db) h.leads.to ∙ ap (λ (l : List ℕ). database_at now.nodes b.place l) h.leads.target
 
 leaf_copied : (now : Network Contents) (a b : Site) (from to : ℕ) → HasCopied now a b from to → (id : List ℕ) (r : Revision) → IsTrue (is_revision r)
-    → IsTrue (is_leaf (history_at (database_of now a) id) r) → from < sequence_at (database_of now a) id → sequence_at (database_of now a) id ≤ to → IsKnownAt (database_of now b) id r
+    → IsTrue (is_leaf (history_at (database_at_site now a) id) r) → from < sequence_at (database_at_site now a) id → sequence_at (database_at_site now a) id ≤ to → IsKnownAt (database_at_site now b) id r
 leaf_copied now a b from to h id r good leaf above below =
     let t = h.transfer in
     let begun : pass_at h.start.transfers h.number ≡ Some (first_pass t.pass.configuration) =
@@ -63,12 +63,12 @@ leaf_copied now a b from to h id r good leaf above below =
 
 -- several passes, one going on where the other ended
 leaf_in_all : (now : Network Contents) (a b : Site) (from : ℕ) (ns : List ℕ) → AreCopied now a b from ns → (id : List ℕ) (r : Revision) → IsTrue (is_revision r)
-    → IsTrue (is_leaf (history_at (database_of now a) id) r) → from < sequence_at (database_of now a) id → sequence_at (database_of now a) id ≤ (database_of now a).length
-    → IsKnownAt (database_of now b) id r
+    → IsTrue (is_leaf (history_at (database_at_site now a) id) r) → from < sequence_at (database_at_site now a) id → sequence_at (database_at_site now a) id ≤ (database_at_site now a).length
+    → IsKnownAt (database_at_site now b) id r
 leaf_in_all now a b from [] h id r good leaf above within = absurd (omega (arith, h, above, within))
 leaf_in_all now a b from (n ∷ ns) h id r good leaf above within =
     ⊎_elim (λ further. leaf_in_all now a b n ns h.1 id r good leaf further within) (λ here. leaf_copied now a b from n h.0 id r good leaf above here)
-    (cases_lt n (sequence_at (database_of now a) id))
+    (cases_lt n (sequence_at (database_at_site now a) id))
 
 -- ---- what was there at first
 
@@ -92,9 +92,9 @@ still_had n a b a_now b_now had later too id r leaf some below =
 -- ---- a way from database to database
 
 module _ (g : Group) (old now : Network Contents) (h : Holds g old.nodes now) where
-  has_all : (a b : Site) → HasCaughtUp g old now a b → HasAllOf (database_of now a) (database_of now b)
+  has_all : (a b : Site) → HasCaughtUp g old now a b → HasAllOf (database_at_site now a) (database_at_site now b)
   has_all a b c =
-      let source = database_of now a in
+      let source = database_at_site now a in
       let sound = h.sound a.place a.name c.one in
       record {
         one = lawful_at now.nodes a.place a.name h.lawful;
@@ -105,13 +105,13 @@ module _ (g : Group) (old now : Network Contents) (h : Holds g old.nodes now) wh
             let at = sequenced source sound.sequences id r known in
             ⊎_elim (λ above. leaf_in_all now a b c.first c.ends c.copied id r (sound.writable id r known) leaf above at.1)
             (λ below.
-            still_had c.first (database_of old a) (database_of old b) source (database_of now b) c.had (h.later a.place a.name c.one) (h.later b.place b.name c.other) id r leaf at.0 below)
+            still_had c.first (database_at_site old a) (database_at_site old b) source (database_at_site now b) c.had (h.later a.place a.name c.one) (h.later b.place b.name c.other) id r leaf at.0 below)
             (cases_lt c.first (sequence_at source id));
       }
 
-  whole_way : (a b : Site) (cs : List Site) → IsWay (HasCaughtUp g old now) a cs b → IsWay HasAllOf (database_of now a) (map (database_of now) cs) (database_of now b)
+  whole_way : (a b : Site) (cs : List Site) → IsWay (HasCaughtUp g old now) a cs b → IsWay HasAllOf (database_at_site now a) (map (database_at_site now) cs) (database_at_site now b)
   whole_way a b cs way =
-      way_through (database_of now) HasAllOf a b cs (way_by (HasCaughtUp g old now) (λ x y. HasAllOf (database_of now x) (database_of now y)) has_all a b cs way)
+      way_through (database_at_site now) HasAllOf a b cs (way_by (HasCaughtUp g old now) (λ x y. HasAllOf (database_at_site now x) (database_at_site now y)) has_all a b cs way)
 
 -- trees are the same where lawfulness is only known to be given
 same_tree : {A : Type 0} (h k : HistoryContent) → ∥ A ∥₁ → (A → HaveSameTree h k) → HaveSameTree h k
@@ -123,25 +123,25 @@ same_tree h k all by = record {
   held = λ r leaf. ∥∥₁_elim all (Coded-set (coded_option held_code) _ _) (λ x. (by x).held r leaf);
 }
 
-all_same_trees : {A : Type 0} (now : Network Contents) (a : Site) (ds : List Site) → ∥ A ∥₁ → (A → AllByRecursion (λ d. HaveSameTrees (database_of now a) (database_of now d)) ds)
-    → AllByRecursion (λ d. HaveSameTrees (database_of now a) (database_of now d)) ds
+all_same_trees : {A : Type 0} (now : Network Contents) (a : Site) (ds : List Site) → ∥ A ∥₁ → (A → AllByRecursion (λ d. HaveSameTrees (database_at_site now a) (database_at_site now d)) ds)
+    → AllByRecursion (λ d. HaveSameTrees (database_at_site now a) (database_at_site now d)) ds
 all_same_trees now a [] all by = tt
 all_same_trees now a (d ∷ ds) all by =
-    (λ id. same_tree (history_at (database_of now a) id) (history_at (database_of now d) id) all (λ x. (by x).0 id), all_same_trees now a ds all (λ x. (by x).1))
+    (λ id. same_tree (history_at (database_at_site now a) id) (history_at (database_at_site now d) id) all (λ x. (by x).0 id), all_same_trees now a ds all (λ x. (by x).1))
 
 pub networks_agree : QuietNetworksAgree
 networks_agree g ss old now a b there back ready course agreed way home id =
-    same_tree (history_at (database_of now a) id) (history_at (database_of now b) id) (all_lawful old.nodes ready.lawful)
+    same_tree (history_at (database_at_site now a) id) (history_at (database_at_site now b) id) (all_lawful old.nodes ready.lawful)
     (λ lawful.
     let h = holds_now g ss old now ready course agreed lawful in
-    ways_meet (database_of now a) (database_of now b) (map (database_of now) there) (map (database_of now) back) (whole_way g old now h a b there way) (whole_way g old now h b a back home) id)
+    ways_meet (database_at_site now a) (database_at_site now b) (map (database_at_site now) there) (map (database_at_site now) back) (whole_way g old now h a b there way) (whole_way g old now h b a back home) id)
 
 pub rings_agree : QuietRingsAgree
 rings_agree g ss old now a ds ready course agreed way =
     all_same_trees now a ds (all_lawful old.nodes ready.lawful)
     (λ lawful.
     let h = holds_now g ss old now ready course agreed lawful in
-    all_through (database_of now) (HaveSameTrees (database_of now a)) ds (rings_meet (database_of now a) (map (database_of now) ds) (whole_way g old now h a a ds way)))
+    all_through (database_at_site now) (HaveSameTrees (database_at_site now a)) ds (rings_meet (database_at_site now a) (map (database_at_site now) ds) (whole_way g old now h a a ds way)))
 
 pub one_pass : OnePassCatchesUp
 one_pass g old now a b one other h = record {
@@ -149,6 +149,6 @@ one_pass g old now a b one other h = record {
   other = other;
   first = 0;
   had = record { within = omega arith; leaves = λ id r leaf some none. absurd (omega (arith, some, none)) };
-  ends = (database_of now a).length ∷ [];
+  ends = (database_at_site now a).length ∷ [];
   copied = (h, omega arith);
 }

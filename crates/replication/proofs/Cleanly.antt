@@ -12,10 +12,10 @@ use Rattle.couch_json.specs.Value.{Items, Members, Value, array, item, member, m
 use Rattle.hex.specs.Hex.{IsBytes, encode_lower}
 use Rattle.md5.specs.Md5.{digest_bytes, md5}
 use Rattle.md5.proofs.StandardFacts.{length-md5}
-use Rattle.tree.specs.History.{HistoryContent, IsBetter, held_of, is_deleted, is_known, is_leaf, path_entries, winner, with_write, write_entries}
+use Rattle.tree.specs.History.{HistoryContent, IsBetter, ancestors_of_parent, held_of, is_deleted, is_known, is_leaf, path_entries, winner, with_write, write_entries}
 use Rattle.tree.specs.NextRevision.{edit_value, next_revision, number_before}
 use Rattle.tree.specs.Revision.{Revision, greatest_number, is_hash, is_revision, revision_cmp, revision_of, revision_read}
-use Rattle.tree.specs.Write.{StandsIn, Write, head, held_by}
+use Rattle.tree.specs.Write.{StandsIn, Write, head, held_of_write}
 use Rattle.tree.specs.declared.entry.Entry.{Entry}
 use Rattle.tree.specs.declared.entry.Held.{Held}
 use Rattle.tree.proofs.Behind.{stands_known}
@@ -25,8 +25,8 @@ use Rattle.tree.proofs.Leaves.{leaf_is_childless, winner_is_best}
 use Rattle.tree.proofs.RevisionText.{parts, read_gives}
 use Rattle.tree.proofs.Shown.{entry_of_known, found_stands, inside}
 use Rattle.store.specs.Database.{Database, DocumentWrite, IsKnownAt, history_at, with_one}
-use Rattle.write.specs.Admission.{base, edit_of, edit_path, extended_leaf, named_revision, revision_after, with_named_revision}
-use Rattle.write.specs.Document.{Ancestry, ancestry_alone, ancestry_by, body_for, body_in, count, fits_id, is_special, mark_in, onto, path_of, revision_in, revisions_in, sent_in, sent_with, without_special, words_in}
+use Rattle.write.specs.Admission.{parent_for_edit, edit_of, implicit_parent, named_revision, revision_after, with_named_revision}
+use Rattle.write.specs.Document.{Ancestry, ancestry_alone, ancestry_by, body_for, body_in, item_count, fits_id, is_special, mark_in, onto, path_of_hashes, given_revision, ancestry_given, sent_in, sent_with, without_special, words_in}
 use Rattle.write.specs.Terms.{Terms}
 use Rattle.write.proofs.Outcomes.{IsEdit, IsReplicated}
 use Rattle.replication.specs.Sound.{AreWritable, IsReplicable, are_plain, is_plain}
@@ -67,19 +67,19 @@ known_or_stands h w s known = by (is_known h s) refl
     by : (b : Bool) → is_known h s ≡ b → (is_known h s ≡ true) ⊎ StandsIn w.path s
     by true is = inl is
     by false is =
-        inr (found_stands w.path (Some (held_by w)) s
+        inr (found_stands w.path (Some (held_of_write w)) s
         (ap (λ (b : Bool). is_some (cond b (get h s) (find revision_cmp s (write_entries w)))) (sym is) ∙ ap is_some (sym (entry_after_write h w s)) ∙ known))
 
-held_or_brought : (h : HistoryContent) (w : Write) (s : Revision) (d : Held) → held_of (with_write h w) s ≡ Some d → (held_of h s ≡ Some d) ⊎ (held_by w ≡ d)
+held_or_brought : (h : HistoryContent) (w : Write) (s : Revision) (d : Held) → held_of (with_write h w) s ≡ Some d → (held_of h s ≡ Some d) ⊎ (held_of_write w ≡ d)
 held_or_brought h w s d e = by (is_known h s) refl
   where
-    by : (b : Bool) → is_known h s ≡ b → (held_of h s ≡ Some d) ⊎ (held_by w ≡ d)
+    by : (b : Bool) → is_known h s ≡ b → (held_of h s ≡ Some d) ⊎ (held_of_write w ≡ d)
     by true is = inl (ap held_in (sym (entry_kept h w s is)) ∙ e)
     by false is =
         let x = entry_of_known (with_write h w) s (held_known (with_write h w) s d e) in
         let found : find revision_cmp s (write_entries w) ≡ Some x.0 =
         ap (λ (b : Bool). cond b (get h s) (find revision_cmp s (write_entries w))) (sym is) ∙ sym (entry_after_write h w s) ∙ x.1 in
-        inr (inside (held_by w) d (said_of_entry w.path (Some (held_by w)) s x.0 d found (ap held_in (sym x.1) ∙ e)))
+        inr (inside (held_of_write w) d (said_of_entry w.path (Some (held_of_write w)) s x.0 d found (ap held_in (sym x.1) ∙ e)))
 
 -- what a clean write leaves can be written
 pub one_writable : (db : Database) (w : DocumentWrite) → AreWritable db → IsClean db w → AreWritable (with_one db w)
@@ -176,7 +176,7 @@ next_good parent deleted body low =
 
 -- what an edit follows is known
 best_known : (h : HistoryContent) (o : Option Revision) → MatchOption o ((r : Revision) → IsTrue (is_leaf h r) → ⊥) (λ w. IsTrue (is_leaf h w) × ((s : Revision) → IsTrue (is_leaf h s) → (s ≡ w) ⊎ IsBetter h w s))
-    → (r : Revision) → extended_leaf h o ≡ Some (Some r) → is_known h r ≡ true
+    → (r : Revision) → implicit_parent h o ≡ Some (Some r) → is_known h r ≡ true
 best_known h None best r e = absurd (let k : (let x : Option Revision = None in x) ≡ Some r = inside None (Some r) e in cc)
 best_known h (Some w) best r e = by (is_deleted (held_of h w)) e
   where
@@ -186,7 +186,7 @@ best_known h (Some w) best r e = by (is_deleted (held_of h w)) e
         ap (is_known h) (sym same) ∙ ((leaf_is_childless h w).0 best.0).0
     by false k = absurd cc
 
-base_known : (h : HistoryContent) (named : Option Revision) (r : Revision) → base h named ≡ Some (Some r) → is_known h r ≡ true
+base_known : (h : HistoryContent) (named : Option Revision) (r : Revision) → parent_for_edit h named ≡ Some (Some r) → is_known h r ≡ true
 base_known h None r e = best_known h (winner h) (winner_is_best h) r e
 base_known h (Some s) r e = by (is_leaf h s) refl e
   where
@@ -226,13 +226,13 @@ edit_clean terms db id query document w writable k =
     subst (λ (r : Revision). IsTrue (is_revision r)) next.1
     (next_good k.parent k.sent.deleted k.sent.body
     (follow_low k.parent (λ r is. writable id r (base_known h k.sent.rev r (k.follows ∙ ap (λ (o : Option Revision). Some o) is))) next.0)) in
-    let path : (s : Revision) → StandsIn (edit_path h k.parent k.rev) s → IsKnownAt db id s ⊎ IsTrue (is_revision s) =
+    let path : (s : Revision) → StandsIn (k.rev ∷ ancestors_of_parent h k.parent) s → IsKnownAt db id s ⊎ IsTrue (is_revision s) =
     λ s i. ⊎_elim (λ e. inr (subst (λ (r : Revision). IsTrue (is_revision r)) e good)) (λ j. inl (stands_known h k.parent s j)) i in
     subst (IsClean db) (sym k.is) (record { body = edit_plain id query document k.sent.rev k.sent.deleted k.sent.body k.says; path = path })
 
 -- ---- revisions of replicated documents
 
-read_good : (rev : Option Value) (r : Revision) → revision_in rev ≡ Some (Some r) → IsTrue (is_revision r)
+read_good : (rev : Option Value) (r : Revision) → given_revision rev ≡ Some (Some r) → IsTrue (is_revision r)
 read_good None r e = absurd (let k : (let x : Option Revision = None in x) ≡ Some r = inside None (Some r) e in cc)
 read_good (Some v) r e = by (text_in v) e
   where
@@ -255,7 +255,7 @@ sent_rev_good : (id : List ℕ) (document : Value) (said : Option Revision) (del
     → IsTrue (is_revision r)
 sent_rev_good id document said deleted body r e is =
     let s = said_of sent_with (words_in id document) (body_for id document) (sent_with (said, deleted) body) e in
-    let rev = rev_of (fits_id id (member_of document (codes "_id"))) (revision_in (member_of document (codes "_rev"))) (mark_in (member_of document (codes "_deleted"))) s.words_said s.words_are in
+    let rev = rev_of (fits_id id (member_of document (codes "_id"))) (given_revision (member_of document (codes "_rev"))) (mark_in (member_of document (codes "_deleted"))) s.words_said s.words_are in
     read_good (member_of document (codes "_rev")) r (rev ∙ ap (λ (o : Option Revision). Some o) (sym (along sent_with (λ x. x.rev) (sent_with (said, deleted) body) (sent_with s.words_said s.body_said) s.is) ∙ is))
 
 made_good : (n : ℕ) (o : Option (List ℕ)) (r : Revision) → option_and_then (λ hash. revision_of n hash) o ≡ Some r → IsTrue (is_revision r)
@@ -269,25 +269,25 @@ made_good n (Some hash) r e = by (is_revision made) refl e
     by true is k = subst (λ (x : Revision). IsTrue (is_revision x)) (inside made r k) is
     by false is k = absurd cc
 
-path_good : (vs : Items) (path : List Revision) → path_of vs ≡ Some path → (s : Revision) → StandsIn path s → IsTrue (is_revision s)
+path_good : (vs : Items) (path : List Revision) → path_of_hashes vs ≡ Some path → (s : Revision) → StandsIn path s → IsTrue (is_revision s)
 path_good no_items path e s i = absurd (subst (λ (p : List Revision). StandsIn p s) (sym (inside [] path e)) i)
-path_good (item v vs) path e s i = by (option_and_then (λ hash. revision_of (suc (count vs)) hash) (text_in v)) refl (path_of vs) (λ p is. path_good vs p is) refl e
+path_good (item v vs) path e s i = by (option_and_then (λ hash. revision_of (suc (item_count vs)) hash) (text_in v)) refl (path_of_hashes vs) (λ p is. path_good vs p is) refl e
   where
-    by : (o : Option Revision) → option_and_then (λ hash. revision_of (suc (count vs)) hash) (text_in v) ≡ o → (rest : Option (List Revision))
-        → ((p : List Revision) → path_of vs ≡ Some p → (r : Revision) → StandsIn p r → IsTrue (is_revision r)) → path_of vs ≡ rest → onto o rest ≡ Some path → IsTrue (is_revision s)
+    by : (o : Option Revision) → option_and_then (λ hash. revision_of (suc (item_count vs)) hash) (text_in v) ≡ o → (rest : Option (List Revision))
+        → ((p : List Revision) → path_of_hashes vs ≡ Some p → (r : Revision) → StandsIn p r → IsTrue (is_revision r)) → path_of_hashes vs ≡ rest → onto o rest ≡ Some path → IsTrue (is_revision s)
     by None is rest below rest_is k = absurd cc
     by (Some q) is None below rest_is k = absurd cc
     by (Some q) is (Some p) below rest_is k =
         ⊎_elim
-        (λ same. subst (λ (x : Revision). IsTrue (is_revision x)) same (made_good (suc (count vs)) (text_in v) q is))
+        (λ same. subst (λ (x : Revision). IsTrue (is_revision x)) same (made_good (suc (item_count vs)) (text_in v) q is))
         (λ j. below p rest_is s j)
         (subst (λ (x : List Revision). StandsIn x s) (sym (inside (q ∷ p) path k)) i)
 
-items_good : (o : Option Items) (path : List Revision) → option_and_then (λ vs. path_of vs) o ≡ Some path → (s : Revision) → StandsIn path s → IsTrue (is_revision s)
+items_good : (o : Option Items) (path : List Revision) → option_and_then (λ vs. path_of_hashes vs) o ≡ Some path → (s : Revision) → StandsIn path s → IsTrue (is_revision s)
 items_good None path e s i = absurd cc
 items_good (Some vs) path e s i = path_good vs path e s i
 
-given_good : (m : Value) (said : Ancestry) → revisions_in m ≡ Some said → (s : Revision) → StandsIn said.path s → IsTrue (is_revision s)
+given_good : (m : Value) (said : Ancestry) → ancestry_given m ≡ Some said → (s : Revision) → StandsIn said.path s → IsTrue (is_revision s)
 given_good m said e s i =
     items_good (option_and_then (λ x. items_in x) (member_of m (codes "ids"))) said.path (given_path (has_only (codes "start" ∷ codes "ids" ∷ []) m) m said e) s i
 
@@ -299,9 +299,9 @@ alone_good (Some r) ancestry good e s i =
     (subst (λ (x : Ancestry). StandsIn x.path s) (sym (inside (ancestry_alone r) ancestry e)) i)
 
 ancestry_good : (m : Option Value) (rev : Option Revision) (ancestry : Ancestry) → ((r : Revision) → rev ≡ Some r → IsTrue (is_revision r))
-    → ancestry_by (option_map revisions_in m) rev ≡ Some ancestry → (s : Revision) → StandsIn ancestry.path s → IsTrue (is_revision s)
+    → ancestry_by (option_map ancestry_given m) rev ≡ Some ancestry → (s : Revision) → StandsIn ancestry.path s → IsTrue (is_revision s)
 ancestry_good None rev ancestry good e s i = alone_good rev ancestry good e s i
-ancestry_good (Some m) rev ancestry good e s i = given_good m ancestry (newest_given rev (revisions_in m) ancestry e) s i
+ancestry_good (Some m) rev ancestry good e s i = given_good m ancestry (newest_given rev (ancestry_given m) ancestry e) s i
 
 pub replicated_clean : (terms : Terms) (db : Database) (id : List ℕ) (document : Value) (w : DocumentWrite) → IsReplicated terms id (history_at db id) document (Some w) → IsClean db w
 replicated_clean terms db id document w k =

@@ -6,14 +6,14 @@ use Rattle.std.specs.FinMap.{empty, get, get-empty}
 use Rattle.couch_json.specs.Value.{Value}
 use Rattle.tree.specs.History.{HistoryContent, content_of, is_known}
 use Rattle.tree.specs.Revision.{Revision, revision_cmp}
-use Rattle.tree.specs.Write.{IsLawful as AreWritten, Write}
+use Rattle.tree.specs.Write.{AreLawfulWrites as AreWritten, Write}
 use Rattle.tree.specs.declared.entry.Entry.{Entry}
 use Rattle.tree.proofs.Leaves.{leaf_is_childless}
 use Rattle.store.specs.Database.{Database, Document, DocumentWrite, IsKnownAt, IsLater, TextMap, history_at, history_in, sequence_at, sequence_in, with_all}
 use Rattle.store.proofs.Laters.{later_by_all, later_still}
-use Rattle.repl.specs.Configuration.{Configuration}
-use Rattle.repl.specs.Passes.{Pass, answered_in, first_of_pending, first_pass, pass_after, with_changes, with_differences, with_failures, with_opened, with_source, with_source_reread, with_source_written, with_target, with_target_reread, with_target_written}
-use Rattle.repl.specs.Replies.{Opened, changes_listed, checkpoint_read, checkpoint_written, differences_read, documents_of, documents_pushed, revisions_opened}
+use Rattle.repl.specs.Configuration.{PassConfiguration}
+use Rattle.repl.specs.Passes.{Pass, answered_in, first_of_pending, first_pass, pass_after, with_changes, with_lacking, with_failures, with_opened, with_source, with_source_reread, with_source_written, with_target, with_target_reread, with_target_written}
+use Rattle.repl.specs.Replies.{Opened, changes_listed, checkpoint_read, checkpoint_written, differences_read, documents_of_opened, documents_pushed, revisions_opened}
 use Rattle.repl.specs.Turns.{Turn, after_turn, answered, lost}
 use Rattle.repl.specs.declared.phase.Phase.{Phase}
 use Rattle.repl.specs.declared.phase.Phase.TheVariants.{ReadSource, ReadTarget, ListChanges, Compare, Open, Push, WriteSource, WriteTarget, RereadSource, RereadTarget, Done, Stopped}
@@ -25,7 +25,7 @@ use Rattle.passes.proofs.Rounds.{owes_nothing}
 use Rattle.replication.specs.Agreement.{Agrees, HaveSameTree, LeavesAreKnown}
 use Rattle.replication.specs.Appended.{Appends, ComesFrom, IsReplica, IsSaidByOne, IsShownBy, KeepsDocuments}
 use Rattle.replication.specs.Converged.{HasCopiedAll, PassesKeepAgreement, TwoPassesConverge}
-use Rattle.replication.specs.Crossing.{BringsShown, Crossed, Crosses, Crossing, IsTurn, Move, Moves, Waits, back_of, goes_back, goes_there, others, pushed_in, there_of}
+use Rattle.replication.specs.Crossing.{BringsShown, Crossed, Crosses, PairState, IsTurn, Move, MovesPairs, Waits, back_of, goes_back, goes_there, others, pushed_in, there_of}
 use Rattle.replication.specs.Sound.{Agree, IsSound}
 use Rattle.replication.proofs.Meeting.{agrees_back, all_reached, both_true, meeting}
 use Rattle.replication.proofs.Replicas.{KeepsAll, all_keep, keep_agreement, keeps_still, past_at, rooted_at, same_agree, same_keeps, same_sound}
@@ -85,9 +85,9 @@ keeps_carried : {A : Type 0} (db : Database) (take : Pass → A → Pass) (p : P
 keeps_carried db take p (Ok a) same h = subst (AreShown db) (sym (same a)) h
 keeps_carried db take p (Err why) same h = h
 
-opened_carried : (db : Database) (p : Pass) (r : Result (List Opened) Why) → ((opened : List Opened) → r ≡ Ok opened → AllByRecursion (IsShownBy db (first_of_pending p.pending).id) (documents_of opened))
+opened_carried : (db : Database) (p : Pass) (r : Result (List Opened) Why) → ((opened : List Opened) → r ≡ Ok opened → AllByRecursion (IsShownBy db (first_of_pending p.pending).id) (documents_of_opened opened))
     → AreShown db p.documents → AreShown db (pass_after with_opened p r).documents
-opened_carried db p (Ok opened) brings h = shown_more db p.documents (documents_of opened) h (shown_under db (first_of_pending p.pending).id (documents_of opened) (brings opened refl))
+opened_carried db p (Ok opened) brings h = shown_more db p.documents (documents_of_opened opened) h (shown_under db (first_of_pending p.pending).id (documents_of_opened opened) (brings opened refl))
 opened_carried db p (Err why) brings h = h
 
 pushed_carried : (db : Database) (p : Pass) (r : Result (List Value) Why) → AreShown db p.documents → AreShown db (pass_after with_failures p r).documents
@@ -98,7 +98,7 @@ answered_carried : (db : Database) (f : Phase) (p : Pass) (status : ℕ) (body :
 answered_carried db ReadSource p status body brings h = keeps_carried db with_source p (checkpoint_read status body) (λ a. refl) h
 answered_carried db ReadTarget p status body brings h = keeps_carried db with_target p (checkpoint_read status body) (λ a. refl) h
 answered_carried db ListChanges p status body brings h = keeps_carried db with_changes p (changes_listed status body) (λ a. refl) h
-answered_carried db Compare p status body brings h = keeps_carried db with_differences p (differences_read p.leaves status body) (λ a. refl) h
+answered_carried db Compare p status body brings h = keeps_carried db with_lacking p (differences_read p.leaves status body) (λ a. refl) h
 answered_carried db Open p status body brings h = opened_carried db p (revisions_opened status body) brings h
 answered_carried db Push p status body brings h = pushed_carried db p (documents_pushed status body) h
 answered_carried db WriteSource p status body brings h = keeps_carried db with_source_written p (checkpoint_written status body) (λ a. refl) h
@@ -123,7 +123,7 @@ record Side (source target listed : Database) (documents : List Value) : Type 0 
   kept : KeepsAll listed source
   known : (id : List ℕ) (r : Revision) → IsKnownAt source id r → IsKnownAt listed id r ⊎ IsKnownAt target id r
 
-record Holds (c : Crossing) : Type 0 where
+record Holds (c : PairState) : Type 0 where
   one : Side c.one c.other c.one_listed c.there.documents
   other : Side c.other c.one c.other_listed c.back.documents
   agree : Agree c.one c.other
@@ -222,7 +222,7 @@ waiting_side : (source target : Database) (old new : Scene) → Waits old new �
 waiting_side source target old new w h =
     subst (λ (p : Pass). Side source target new.listed p.documents) (sym w.0) (subst (λ (l : Database). Side source target l old.pass.documents) (sym w.1) h)
 
-moves_hold : (m : Move) (old new : Crossing) → Moves m old new → Holds old → Holds new
+moves_hold : (m : Move) (old new : PairState) → MovesPairs m old new → Holds old → Holds new
 moves_hold others old new m h = record {
   one = waiting_side new.one new.other (there_of old) (there_of new) m.2 (side_on old.one new.one old.other new.other old.one_listed old.there.documents m.0 (same_keeps old.other new.other m.1) h.one);
   other = waiting_side new.other new.one (back_of old) (back_of new) m.3 (side_on old.other new.other old.one new.one old.other_listed old.back.documents m.1 (same_keeps old.one new.one m.0) h.other);
@@ -235,18 +235,18 @@ moves_hold (goes_back t) old new m h =
     let k = turned t (back_of old) (back_of new) old.one_listed old.there.documents m.0 h.other h.one (agree_back old.one old.other h.agree) in
     record { one = waiting_side new.one new.other (there_of old) (there_of new) m.1 k.waits; other = k.own; agree = agree_back new.other new.one k.agree }
 
-crosses_hold : (ms : List Move) (old new : Crossing) → Crosses ms old new → Holds old → Holds new
+crosses_hold : (ms : List Move) (old new : PairState) → Crosses ms old new → Holds old → Holds new
 crosses_hold [] old new is h = subst Holds (sym is) h
 crosses_hold (m ∷ ms) old new (between, here, later) h = crosses_hold ms between new later (moves_hold m old between here h)
 
 -- at first nothing is carried, and what is listed is what is there
-first_side : (s t listed : Database) (p : Pass) (c : Configuration) → p ≡ first_pass c → listed ≡ s → IsSound s → Side s t listed p.documents
+first_side : (s t listed : Database) (p : Pass) (c : PassConfiguration) → p ≡ first_pass c → listed ≡ s → IsSound s → Side s t listed p.documents
 first_side s t listed p c begins is sound =
     subst (λ (q : Pass). Side s t listed q.documents) (sym begins)
     (subst (λ (l : Database). Side s t l []) (sym is)
     (record { sound = sound; listed_sound = sound; shown = tt; kept = λ id r known. refl; known = λ id r known. inl known }))
 
-went_holds : (c d : Configuration) (ms : List Move) (now : Crossing) (went : Crossed c d ms now) → IsSound went.first.one → IsSound went.first.other → Agree went.first.one went.first.other → Holds now
+went_holds : (c d : PassConfiguration) (ms : List Move) (now : PairState) (went : Crossed c d ms now) → IsSound went.first.one → IsSound went.first.other → Agree went.first.one went.first.other → Holds now
 went_holds c d ms now went one other agree =
     crosses_hold ms went.first now went.crosses
     (record {
@@ -285,18 +285,18 @@ event_back others = others_write
 event_back (goes_there t) = others_write
 event_back (goes_back t) = turn t
 
-moves_there : (m : Move) (old new : Crossing) → Moves m old new → Follows (event_there m) (there_of old) (there_of new)
+moves_there : (m : Move) (old new : PairState) → MovesPairs m old new → Follows (event_there m) (there_of old) (there_of new)
 moves_there others old new m = (record { source = later_same old.one new.one m.0; target = later_same old.other new.other m.1 }, m.2.0, m.2.1)
 moves_there (goes_there t) old new m = follows_turn t (there_of old) (there_of new) m.0
 moves_there (goes_back t) old new m = follows_wait t (there_of old) (there_of new) _ m.0.target m.0.source m.1
 
-moves_back : (m : Move) (old new : Crossing) → Moves m old new → Follows (event_back m) (back_of old) (back_of new)
+moves_back : (m : Move) (old new : PairState) → MovesPairs m old new → Follows (event_back m) (back_of old) (back_of new)
 moves_back others old new m = (record { source = later_same old.other new.other m.1; target = later_same old.one new.one m.0 }, m.3.0, m.3.1)
 moves_back (goes_there t) old new m = follows_wait t (back_of old) (back_of new) _ m.0.target m.0.source m.1
 moves_back (goes_back t) old new m = follows_turn t (back_of old) (back_of new) m.0
 
-goes_as : (view : Crossing → Scene) (event : Move → Event) → ((m : Move) (old new : Crossing) → Moves m old new → Follows (event m) (view old) (view new))
-    → (ms : List Move) (old new : Crossing) → Crosses ms old new → Goes (map event ms) (view old) (view new)
+goes_as : (view : PairState → Scene) (event : Move → Event) → ((m : Move) (old new : PairState) → MovesPairs m old new → Follows (event m) (view old) (view new))
+    → (ms : List Move) (old new : PairState) → Crosses ms old new → Goes (map event ms) (view old) (view new)
 goes_as view event each [] old new is = ap view is
 goes_as view event each (m ∷ ms) old new (between, here, later) = (view between, each m old between here, goes_as view event each ms between new later)
 
@@ -315,7 +315,7 @@ known_or_none true id r refused none e = refl
 known_or_none false id r refused none e = ap (is_reported id r) (sym none) ∙ e
 
 -- the leaves that were listed are known at the target
-leaves_known : (c : Configuration) (es : List Event) (now : Scene) → Went c es now → HasCopiedAll now.pass → IsSound now.listed → (id : List ℕ) → LeavesAreKnown (history_at now.listed id) (history_at now.target id)
+leaves_known : (c : PassConfiguration) (es : List Event) (now : Scene) → Went c es now → HasCopiedAll now.pass → IsSound now.listed → (id : List ℕ) → LeavesAreKnown (history_at now.listed id) (history_at now.target id)
 leaves_known c es now went ended sound id r leaf =
     let known = ((leaf_is_childless (history_at now.listed id) r).0 leaf).0 in
     let some : now.pass.start_seq < sequence_at now.listed id = omega (arith, ended.start, written_at now.listed sound id r known) in
@@ -332,7 +332,7 @@ listed_agrees source target listed keeps agree id =
     }
 
 -- all that the source knows the target knows
-all_known : (c : Configuration) (es : List Event) (now : Scene) (vs : List Value) → Went c es now → HasCopiedAll now.pass → Side now.source now.target now.listed vs → IsSound now.target
+all_known : (c : PassConfiguration) (es : List Event) (now : Scene) (vs : List Value) → Went c es now → HasCopiedAll now.pass → Side now.source now.target now.listed vs → IsSound now.target
     → Agree now.source now.target → (id : List ℕ) (r : Revision) → IsKnownAt now.source id r → IsKnownAt now.target id r
 all_known c es now vs went ended side target agree id r known =
     ⊎_elim

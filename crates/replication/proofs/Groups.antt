@@ -16,19 +16,19 @@ use Rattle.store.specs.Contents.{Contents}
 use Rattle.store.specs.Database.{Database, IsLater, with_all}
 use Rattle.store.proofs.Laters.{later_itself, later_still}
 use Rattle.node.specs.Runs.{Steps}
-use Rattle.repl.specs.Configuration.{Configuration}
+use Rattle.repl.specs.Configuration.{PassConfiguration}
 use Rattle.repl.specs.Passes.{Pass, asked_of}
 use Rattle.repl.specs.Turns.{after_turn}
 use Rattle.passes.proofs.Rounds.{turn_configured}
-use Rattle.world.specs.Exchanging.{IsAskedBy}
+use Rattle.world.specs.Exchanging.{IsAsked}
 use Rattle.world.specs.Happening.{Happening, Sight, comes, exchanges}
 use Rattle.world.specs.Network.{Network, Transfer, transfer_at}
-use Rattle.world.specs.Playing.{HappensBy, PlaysBy}
-use Rattle.world.specs.Service.{Asker, HandlingOf, IsHandled}
+use Rattle.world.specs.Playing.{Happens, Plays}
+use Rattle.world.specs.Service.{Asker, Handling, IsHandled, alike}
 use Rattle.world.specs.declared.fate.Fate.{Fate}
 use Rattle.replication.specs.Finished.{IsTold, database_at}
 use Rattle.replication.specs.Requests.{requests_of}
-use Rattle.replication.specs.Runs.{Run, RunOf}
+use Rattle.replication.specs.Runs.{Run}
 use Rattle.replication.proofs.Again.{run_again}
 use Rattle.replication.proofs.Keepings.{LawfulAt, all_lawful}
 use Rattle.replication.proofs.Places.{one_transfer, passed_elsewhere, passed_here}
@@ -36,7 +36,7 @@ use Rattle.replication.proofs.Sound.{IsSound as IsSoundPass, first_sound}
 use Rattle.replication.specs.Appended.{Appends, ComesFrom, IsReplica, KeepsDocuments}
 use Rattle.replication.specs.Crossing.{pushed_in}
 use Rattle.replication.specs.Groups.{AreOf, Group, GroupCourse, GroupsKeepAgreement, IsFresh, IsInAgreement, IsOf, IsPeaceful, IsReady, IsWithin, KeepsGroup, LeavesAgreement}
-use Rattle.replication.specs.Networks.{Stage, arranges, runs}
+use Rattle.replication.specs.Networks.{QuietStage, arranges, runs}
 use Rattle.replication.specs.Sound.{Agree, IsSound}
 use Rattle.replication.proofs.Crossings.{AreShown, agree_back, all_come, all_shown_still, appends_keep, carried, later_appends, later_same, pushed_shown}
 use Rattle.replication.proofs.Growing.{Grows, grows_by, grows_itself, grows_still, handled_grows}
@@ -49,12 +49,12 @@ use Rattle.replication.proofs.Turnings.{HasTurn, sound_after, turned}
 -- ---- a request of the group's passes, or of others
 
 -- A request is handled. Where no pass of the group asks, its databases are in agreement afterwards.
-abbrev Only : Group → HandlingOf Contents
+abbrev Only : Group → Handling Contents
 Only g who old place m reply new = IsHandled Steps old place m reply new × (IsOf g who ⊎ IsPeaceful g old new)
 
-only_of : (g : Group) (old new : Network Contents) (run : RunOf Steps old new) → AreOf g (requests_of run) → Run (Only g) old new
+only_of : (g : Group) (old new : Network Contents) (run : Run (alike Steps) old new) → AreOf g (requests_of run) → Run (Only g) old new
 only_of g old new run h =
-    (run_again (λ who. IsHandled Steps) (Only g) (λ r. IsOf g r.who ⊎ IsPeaceful g r.old r.new) (λ who a place m r b handled ours. (handled, ours)) old new run h).0
+    (run_again (alike Steps) (Only g) (λ r. IsOf g r.who ⊎ IsPeaceful g r.old r.new) (λ who a place m r b handled ours. (handled, ours)) old new run h).0
 
 handled : (g : Group) (who : Asker) (old : Nodes) (place : ℕ) (m : Message) (r : Reply) (new : Nodes) → Only g who old place m r new → IsHandled Steps old place m r new
 handled g who old place m r new h = h.0
@@ -183,15 +183,15 @@ spared_holds g base old new s passes h = record {
 
 within_as : (g : Group) (t : Transfer) (p : Pass) → p.configuration ≡ t.pass.configuration → IsWithin g t → IsWithin g (record t { pass = p })
 within_as g t p e w = record {
-  source = ap (λ (c : Configuration). g.databases t.from c.source_db) e ∙ w.source;
-  target = ap (λ (c : Configuration). g.databases t.to c.target_db) e ∙ w.target;
-  apart = subst (λ (c : Configuration). t.from ≡ t.to → c.source_db ≢ c.target_db) (sym e) w.apart;
+  source = ap (λ (c : PassConfiguration). g.databases t.from c.source_db) e ∙ w.source;
+  target = ap (λ (c : PassConfiguration). g.databases t.to c.target_db) e ∙ w.target;
+  apart = subst (λ (c : PassConfiguration). t.from ≡ t.to → c.source_db ≢ c.target_db) (sym e) w.apart;
   told = subst IsTold (sym e) w.told;
 }
 
 module _ (g : Group) (base : Nodes) (number : ℕ) (x : Transfer) (old new : Network Contents) (ours : g.passes number ≡ true) (there : transfer_at old.transfers number ≡ Some x)
     (h : Holds g base old) (turn : HasTurn number x x.pass.phase x.pass old new) where
-  abbrev k : Configuration
+  abbrev k : PassConfiguration
   k = x.pass.configuration
 
   abbrev source : Database
@@ -270,7 +270,7 @@ module _ (g : Group) (base : Nodes) (number : ℕ) (x : Transfer) (old new : Net
       record {
         within = within_as g x (after_turn x.pass turn.turn) same stands.within;
         sound = sound_after x.pass turn.turn turn.sound;
-        shown = subst (λ (c : Configuration). AreShown (database_at new.nodes x.from c.source_db) (after_turn x.pass turn.turn).documents) (sym same)
+        shown = subst (λ (c : PassConfiguration). AreShown (database_at new.nodes x.from c.source_db) (after_turn x.pass turn.turn).documents) (sym same)
             (all_shown_still source (database_at new.nodes x.from k.source_db) from_sound (keeps_now x.from k.source_db) (after_turn x.pass turn.turn).documents
             (carried source x.pass turn.turn turn.shown stands.shown));
       }
@@ -318,7 +318,7 @@ module _ (g : Group) (base : Nodes) where
       (λ n t ours is. inl (sym (s.passes n (λ e. false≢true (sym none ∙ ap g.passes (sym e) ∙ ours))) ∙ is)) h
 
   exchange_holds : (number : ℕ) (fate : Fate) (old new : Network Contents) (seen : List Sight) (x : Transfer) → transfer_at old.transfers number ≡ Some x
-      → IsAskedBy (Only g) fate old number x (asked_of x.pass) seen new → Holds g base old → Holds g base new
+      → IsAsked (Only g) fate old number x (asked_of x.pass) seen new → Holds g base old → Holds g base new
   exchange_holds number fate old new seen x there i h = by (g.passes number) refl
     where
       by : (b : Bool) → g.passes number ≡ b → Holds g base new
@@ -330,18 +330,18 @@ module _ (g : Group) (base : Nodes) where
           others_hold number old new none
           (others_asked (Only g) (Spares g) (spares_itself g) (spares_still g) (IsOther g) (spared g) fate old new number x (asked_of x.pass) seen (λ ours. false≢true (sym none ∙ ours)) i) h
 
-  event_holds : (e : Happening) (old new : Network Contents) (seen : List Sight) → HappensBy (Only g) old e seen new → Holds g base old → Holds g base new
+  event_holds : (e : Happening) (old new : Network Contents) (seen : List Sight) → Happens (Only g) old e seen new → Holds g base old → Holds g base new
   event_holds (comes piece) old new seen i h =
       spared_holds g base old new
       (others_service (Only g) (Spares g) (spares_itself g) (spares_still g) (IsOther g) (spared g) old.homes old.nodes new.nodes i.1.arrivals i.0 (λ conn none. none) i.1.served)
       (λ n t ours is. inl (ap (λ (ts : List Transfer). transfer_at ts n) (sym i.1.transfers) ∙ is)) h
   event_holds (exchanges number fate) old new seen i h = exchange_holds number fate old new seen i.transfer i.there i.asked h
 
-  play_holds : (es : List Happening) (old new : Network Contents) (seen : List Sight) → PlaysBy (Only g) old es seen new → Holds g base old → Holds g base new
+  play_holds : (es : List Happening) (old new : Network Contents) (seen : List Sight) → Plays (Only g) old es seen new → Holds g base old → Holds g base new
   play_holds [] old new seen i h = subst (Holds g base) (sym i.1) h
   play_holds (e ∷ es) old new seen (first, rest, between, here, later, order) h = play_holds es between new rest later (event_holds e old between first here h)
 
-  course_holds : (ss : List Stage) (old new : Network Contents) → GroupCourse g ss old new → Holds g base old → Holds g base new
+  course_holds : (ss : List QuietStage) (old new : Network Contents) → GroupCourse g ss old new → Holds g base old → Holds g base new
   course_holds [] old new is h = subst (Holds g base) (sym is) h
   course_holds (runs ∷ ss) old new (between, run, ours, rest) h =
       let only = only_of g old between run ours in
@@ -358,7 +358,7 @@ holds_first g old ready agreed lawful = record {
   passes = λ n t ours is. fresh_stands g old.nodes t (ready.fresh n t ours is);
 }
 
-pub holds_now : (g : Group) (ss : List Stage) (old new : Network Contents) → IsReady g old → GroupCourse g ss old new → IsInAgreement g old.nodes → LawfulAt old.nodes → Holds g old.nodes new
+pub holds_now : (g : Group) (ss : List QuietStage) (old new : Network Contents) → IsReady g old → GroupCourse g ss old new → IsInAgreement g old.nodes → LawfulAt old.nodes → Holds g old.nodes new
 holds_now g ss old new ready course agreed lawful = course_holds g old.nodes ss old new course (holds_first g old ready agreed lawful)
 
 pub groups_agree : GroupsKeepAgreement

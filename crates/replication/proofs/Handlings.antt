@@ -15,9 +15,9 @@ use Rattle.node.specs.Runs.{Steps}
 use Rattle.node.specs.Step.{Serving}
 use Rattle.node.proofs.Steps.{step_lawful}
 use Rattle.repl.specs.Calls.{Call, open_revisions, push_documents, request_of}
-use Rattle.repl.specs.Configuration.{Configuration}
+use Rattle.repl.specs.Configuration.{PassConfiguration}
 use Rattle.repl.specs.Passes.{Pass, first_of_pending}
-use Rattle.repl.specs.Replies.{documents_of}
+use Rattle.repl.specs.Replies.{documents_of_opened}
 use Rattle.repl.specs.declared.side.Side.{Side}
 use Rattle.repl.specs.declared.side.Side.TheVariants.{Source, Target}
 use Rattle.world.specs.Keeping.{IsAt}
@@ -105,7 +105,7 @@ module _ (old new : Nodes) (place : ℕ) (m : Message) (r : Reply) (h : IsHandle
 -- ---- a call of a pass
 
 -- what becomes of a pass's two databases, and of all others
-pub record BothBecome (t : Transfer) (k : Configuration) (documents : List Value) (old new : Nodes) : Type 0 where
+pub record BothBecome (t : Transfer) (k : PassConfiguration) (documents : List Value) (old new : Nodes) : Type 0 where
   pub source : BecomesAt old t.from k.source_db new KeepsDocuments
   pub target : BecomesAt old t.to k.target_db new (Appends documents)
   pub others : (q : ℕ) (name : List ℕ) → (q ≡ t.to → name ≢ k.target_db) → BecomesAt old q name new KeepsDocuments
@@ -117,7 +117,7 @@ appends_none documents db now k = record { writes = []; said = tt; acceptable = 
 pub becomes_more : (old new : Nodes) (place : ℕ) (name : List ℕ) (documents : List Value) → BecomesAt old place name new KeepsDocuments → BecomesAt old place name new (Appends documents)
 becomes_more old new place name documents b = (appends_none documents (database_at old place name) (database_at new place name) b.0, b.1)
 
-module _ (t : Transfer) (k : Configuration) (told : IsTold k) (apart : t.from ≡ t.to → k.source_db ≢ k.target_db) (old new : Nodes) (r : Reply) where
+module _ (t : Transfer) (k : PassConfiguration) (told : IsTold k) (apart : t.from ≡ t.to → k.source_db ≢ k.target_db) (old new : Nodes) (r : Reply) where
   pub quiet : (place : ℕ) (side : Side) (call : Call) → is_push call ≡ false → AsksLawfully call → IsHandled Steps old place (request_of k side call) r new → BothBecome t k [] old new
   quiet place side call other asks h =
       let nowhere = others_write_nothing h.node.configuration h.node.store k side call r h.after other asks h.handled in
@@ -146,11 +146,11 @@ module _ (t : Transfer) (k : Configuration) (told : IsTold k) (apart : t.from �
 
 -- ---- the documents that are opened
 
-pub opens_shown : (k : Configuration) (told : IsTold k) (place : ℕ) (p : Pass) (old new : Nodes) (r : Reply) → IsSound p
+pub opens_shown : (k : PassConfiguration) (told : IsTold k) (place : ℕ) (p : Pass) (old new : Nodes) (r : Reply) → IsSound p
     → IsHandled Steps old place (request_of k Source (open_revisions (first_of_pending p.pending))) r new → OpensShown (database_at old place k.source_db) p r.status r.body
 opens_shown k told place p old new r sound h opened e =
     let row = first_of_pending p.pending in
     let texts = first_texts p.pending sound.pending in
     let s = opened_shown h.node.configuration h.node.store k row opened r h.after told.source_db (id_bytes row texts) (list_bytes row texts) (list_lawful row texts) h.handled e in
     let same : s.db ≡ database_at old place k.source_db = sym (at_found old place k.source_db s.db (record { node = h.node; there = h.there; holds = s.there })) in
-    subst (λ (x : Database). AllByRecursion (IsShownBy x row.id) (documents_of opened)) same s.says
+    subst (λ (x : Database). AllByRecursion (IsShownBy x row.id) (documents_of_opened opened)) same s.says

@@ -15,7 +15,7 @@ use Rattle.tree.specs.Revision.{Revision, revision_cmp}
 use Rattle.tree.specs.declared.entry.Entry.{Entry}
 use Rattle.store.specs.Contents.{Contents, new_database}
 use Rattle.store.specs.Database.{Database, Document, HasSequences, IsLater, history_at, sequence_in}
-use Rattle.store.specs.Lawful.{AreLawful, IsLawful}
+use Rattle.store.specs.Lawful.{AreLawful, IsLawfulDatabase}
 use Rattle.store.proofs.Contents.{history_at-empty_database}
 use Rattle.store.proofs.Lawfuls.{lawful_empty}
 use Rattle.node.proofs.Steps.{step_lawful}
@@ -25,7 +25,7 @@ use Rattle.world.proofs.Along.{along, become_later}
 use Rattle.world.specs.Happening.{Happening, Sight}
 use Rattle.world.specs.Keeping.{IsAt, Keeping}
 use Rattle.world.specs.Network.{Network, Transfer}
-use Rattle.world.specs.Playing.{HappensBy, PlaysBy}
+use Rattle.world.specs.Playing.{Happens, Plays}
 use Rattle.world.specs.Service.{IsHandled}
 use Rattle.replication.specs.Finished.{AreAllLawful, database_at, database_of_node, found_or_new, source_of, target_of}
 use Rattle.replication.proofs.Places.{set_elsewhere, set_here}
@@ -54,7 +54,7 @@ handled_lawful old new place m r h lawful q node there = by (cases_eq q place)
         subst (λ (n : Serving Contents). AreLawful n.store) is (step_lawful h.node.configuration h.node.store m (λ _. ⊤) r h.after h.handled (lawful place h.node h.there))
     by (inr e) = lawful q node (sym (set_elsewhere old place q next e) ∙ ap (λ (xs : Nodes). slice_get xs q) (sym h.left) ∙ there)
 
-pub plays_lawful : (t : Transfer) (hs : List Happening) (old new : Network Contents) (seen : List Sight) → PlaysBy (Keeping t) old hs seen new → LawfulAt old.nodes → LawfulAt new.nodes
+pub plays_lawful : (t : Transfer) (hs : List Happening) (old new : Network Contents) (seen : List Sight) → Plays (Keeping t) old hs seen new → LawfulAt old.nodes → LawfulAt new.nodes
 plays_lawful t hs old new seen p =
     along (Keeping t) (λ a b. LawfulAt a → LawfulAt b) (λ a x. x) (λ a b c f g x. g (f x)) (λ who a place m r b k. handled_lawful a b place m r k.0) hs old new seen p
 
@@ -84,12 +84,12 @@ look nodes place name = by (slice_get nodes place) refl
     by None is = inr (ap (λ (o : Option (Serving Contents)). found_or_new (database_of_node o name)) is)
     by (Some node) is = inside node is (get node.store name) refl
 
-pub lawful_at : (nodes : Nodes) (place : ℕ) (name : List ℕ) → LawfulAt nodes → IsLawful (database_at nodes place name)
+pub lawful_at : (nodes : Nodes) (place : ℕ) (name : List ℕ) → LawfulAt nodes → IsLawfulDatabase (database_at nodes place name)
 lawful_at nodes place name lawful = by (look nodes place name)
   where
-    by : ((db : Database) × IsAt nodes place name db) ⊎ (database_at nodes place name ≡ new_database) → IsLawful (database_at nodes place name)
-    by (inl (db, at)) = subst IsLawful (sym (at_found nodes place name db at)) (lawful place at.node at.there name db at.holds)
-    by (inr e) = subst IsLawful (sym e) (lawful_empty closed_security)
+    by : ((db : Database) × IsAt nodes place name db) ⊎ (database_at nodes place name ≡ new_database) → IsLawfulDatabase (database_at nodes place name)
+    by (inl (db, at)) = subst IsLawfulDatabase (sym (at_found nodes place name db at)) (lawful place at.node at.there name db at.holds)
+    by (inr e) = subst IsLawfulDatabase (sym e) (lawful_empty closed_security)
 
 -- ---- later databases
 
@@ -123,11 +123,11 @@ later_at old new place name lawful goes = by (look old place name)
     by (inr e) =
         subst (λ (x : Database). IsLater x (database_at new place name)) (sym e) (later_than_none (database_at new place name) (lawful_at new place name lawful).sequences)
 
-pub plays_later : (t : Transfer) (hs : List Happening) (old new : Network Contents) (seen : List Sight) → LawfulAt new.nodes → PlaysBy (Keeping t) old hs seen new
+pub plays_later : (t : Transfer) (hs : List Happening) (old new : Network Contents) (seen : List Sight) → LawfulAt new.nodes → Plays (Keeping t) old hs seen new
     → IsLater (source_of t old) (source_of t new) × IsLater (target_of t old) (target_of t new)
 plays_later t hs old new seen lawful p =
     let k = become_later t hs seen old new p in
     (later_at old.nodes new.nodes t.from t.pass.configuration.source_db lawful k.0, later_at old.nodes new.nodes t.to t.pass.configuration.target_db lawful k.1)
 
-pub one_event : (t : Transfer) (h : Happening) (old new : Network Contents) (seen : List Sight) → HappensBy (Keeping t) old h seen new → PlaysBy (Keeping t) old (h ∷ []) seen new
+pub one_event : (t : Transfer) (h : Happening) (old new : Network Contents) (seen : List Sight) → Happens (Keeping t) old h seen new → Plays (Keeping t) old (h ∷ []) seen new
 one_event t h old new seen p = (seen, [], new, p, (refl, refl), sym (append-nil seen))

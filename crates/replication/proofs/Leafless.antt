@@ -16,8 +16,8 @@ use Rattle.node.specs.Runs.{Steps}
 use Rattle.node.specs.Step.{Serving}
 use Rattle.world.specs.Happening.{Happening, Sight}
 use Rattle.world.specs.Network.{Network}
-use Rattle.world.specs.Playing.{PlaysBy}
-use Rattle.world.specs.Service.{HandlingOf, IsHandled}
+use Rattle.world.specs.Playing.{Plays}
+use Rattle.world.specs.Service.{Handling, alike}
 use Rattle.replication.specs.Finished.{ListsLastIn, database_at, database_of_node, found_or_new}
 use Rattle.replication.specs.Runs.{Run}
 use Rattle.replication.proofs.Settlements.{done_owes}
@@ -26,7 +26,7 @@ use Rattle.replication.specs.Sound.{AreWritable}
 use Rattle.replication.proofs.Replicables.{runs_keep_writable}
 
 -- the events up to the last list
-up_to : {S : Type 0} (handling : HandlingOf S) (n : ℕ) (hs : List Happening) (old : Network S) (seen : List Sight) (new : Network S) (p : PlaysBy handling old hs seen new) (listed : Network S)
+up_to : {S : Type 0} (handling : Handling S) (n : ℕ) (hs : List Happening) (old : Network S) (seen : List Sight) (new : Network S) (p : Plays handling old hs seen new) (listed : Network S)
     → ListsLastIn handling n hs old seen new p listed → Run handling old listed
 up_to handling n [] old seen new p listed h = absurd h
 up_to handling n (h ∷ hs) old seen new (first, others, between, here, later, order) listed (inl is) = record { happenings = []; seen = []; played = (refl, is.0) }
@@ -55,6 +55,6 @@ leaf_writable nodes all place name id r leaf = by (slice_get nodes place) refl l
 
 pub done_owe_no_leaf : DonePassesOweNoLeaf
 done_owe_no_leaf n t start listed now later run more p q begins all kept lists at done further stands id r leaf above =
-    let before = up_to (λ who. IsHandled Steps) n run.happenings start run.seen now run.played listed lists in
+    let before = up_to (alike Steps) n run.happenings start run.seen now run.played listed lists in
     done_owes n t start listed now later run more p q begins kept lists at done further stands id r
     (leaf_writable listed.nodes (runs_keep_writable start listed before all) t.from t.pass.configuration.source_db id r leaf) leaf above

@@ -5,7 +5,7 @@ use Rattle.std.specs.FinMap.{get}
 use Rattle.std.proofs.lemmas.Bool.{false≢true}
 use Rattle.tree.specs.History.{HistoryContent, IsRooted, LooksAlike, content_of, held_of, is_deleted, is_known, is_leaf, leaves, parent_of}
 use Rattle.tree.specs.Revision.{Revision}
-use Rattle.tree.specs.Write.{AreWhole, IsKnown, IsLawful, StandsIn, Write, counts_down}
+use Rattle.tree.specs.Write.{AreWhole, IsKnown, AreLawfulWrites, StandsIn, Write, counts_down}
 use Rattle.tree.specs.declared.entry.Entry.{Entry}
 use Rattle.tree.specs.declared.entry.Held.{Held}
 use Rattle.tree.proofs.LawfulContents.{rooted}
@@ -77,7 +77,7 @@ reached h k top (suc n) root_h root_k agrees leaves few r le known =
               false≢true (sym is ∙ parent_known h k agrees root_k s r up (above s (omega (arith, le, root_h.descends s r up)) (child_known h s r up))),
         ))
 
-pub all_reached : (ws : List Write) (k : HistoryContent) → IsLawful ws → IsRooted k → Agrees (content_of ws) k → LeavesAreKnown (content_of ws) k
+pub all_reached : (ws : List Write) (k : HistoryContent) → AreLawfulWrites ws → IsRooted k → Agrees (content_of ws) k → LeavesAreKnown (content_of ws) k
     → (r : Revision) → is_known (content_of ws) r ≡ true → is_known k r ≡ true
 all_reached ws k lawful root agrees leaves r known =
     reached (content_of ws) k (total ws) (total ws) (rooted ws lawful) root agrees leaves
@@ -102,7 +102,7 @@ both_held None p x y one = absurd cc
 both_held (Some d) None x y one = absurd cc
 both_held (Some d) (Some e) x y one = ap Some (one d e refl refl)
 
-pub meeting : (ws vs : List Write) → IsLawful ws → IsLawful vs → Agrees (content_of ws) (content_of vs) → ((r : Revision) → is_known (content_of ws) r ≡ is_known (content_of vs) r)
+pub meeting : (ws vs : List Write) → AreLawfulWrites ws → AreLawfulWrites vs → Agrees (content_of ws) (content_of vs) → ((r : Revision) → is_known (content_of ws) r ≡ is_known (content_of vs) r)
     → HaveSameTree (content_of ws) (content_of vs)
 meeting ws vs lawful_ws lawful_vs agrees same =
     let h = content_of ws in
@@ -113,7 +113,7 @@ meeting ws vs lawful_ws lawful_vs agrees same =
     let alike : LooksAlike h k = record { known = same; parents = parents; marks = λ r leaf. ap is_deleted (held r leaf) } in
     record { known = same; parents = parents; leaves = leaves_same h k alike; winner = winner_same h k alike; held = held }
 
-pub leaves_meet : (ws vs : List Write) → IsLawful ws → IsLawful vs → Agrees (content_of ws) (content_of vs) → LeavesAreKnown (content_of ws) (content_of vs)
+pub leaves_meet : (ws vs : List Write) → AreLawfulWrites ws → AreLawfulWrites vs → Agrees (content_of ws) (content_of vs) → LeavesAreKnown (content_of ws) (content_of vs)
     → LeavesAreKnown (content_of vs) (content_of ws) → HaveSameTree (content_of ws) (content_of vs)
 leaves_meet ws vs lawful_ws lawful_vs agrees there back =
     meeting ws vs lawful_ws lawful_vs agrees

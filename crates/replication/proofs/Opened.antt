@@ -13,7 +13,7 @@ use Rattle.read.specs.OpenRevisions.{open_revisions}
 use Rattle.node.specs.Answer.{Outcome, answer, with_change}
 use Rattle.repl.specs.Calls as call
 use Rattle.repl.specs.Calls.{Revisions, request_of}
-use Rattle.repl.specs.Replies.{Opened, documents_of, opened_in}
+use Rattle.repl.specs.Replies.{Opened, documents_of_opened, opened_in}
 use Rattle.repl.specs.Shapes.{list_in}
 use Rattle.repl.specs.declared.side.Side.TheVariants.{Source}
 use Rattle.passes.proofs.Elements.{all_read, read_by, shown}
@@ -22,12 +22,12 @@ use Rattle.passes.proofs.Told.{said, was_answered}
 use Rattle.replication.specs.Appended.{IsShownBy}
 use Rattle.replication.specs.Written.{OpenedAreShown}
 
-more_shown : (db : Database) (id : List ℕ) (r : Revision) (o : Option Held) (rest : List Opened) → held_of (history_at db id) r ≡ o → AllByRecursion (IsShownBy db id) (documents_of rest)
-    → AllByRecursion (IsShownBy db id) (documents_of (read_by id (history_at db id) r o ∷ rest))
+more_shown : (db : Database) (id : List ℕ) (r : Revision) (o : Option Held) (rest : List Opened) → held_of (history_at db id) r ≡ o → AllByRecursion (IsShownBy db id) (documents_of_opened rest)
+    → AllByRecursion (IsShownBy db id) (documents_of_opened (read_by id (history_at db id) r o ∷ rest))
 more_shown db id r None rest is h = h
 more_shown db id r (Some held) rest is h = (record { rev = r; is = ap (λ (o : Option Held). option_map (λ d. shown id (history_at db id) r d) o) is }, h)
 
-all_shown : (db : Database) (id : List ℕ) (rs : List Revision) → AllByRecursion (IsShownBy db id) (documents_of (map (λ r. read_by id (history_at db id) r (held_of (history_at db id) r)) rs))
+all_shown : (db : Database) (id : List ℕ) (rs : List Revision) → AllByRecursion (IsShownBy db id) (documents_of_opened (map (λ r. read_by id (history_at db id) r (held_of (history_at db id) r)) rs))
 all_shown db id [] = tt
 all_shown db id (r ∷ rs) = more_shown db id r (held_of (history_at db id) r) _ refl (all_shown db id rs)
 
@@ -48,5 +48,5 @@ opened_shown c a k row opened r after small id_small list_small lawful step e =
       db = h.db;
       there = h.there;
       same = told.left ∙ ap (λ (o : Outcome). with_change o.change a) h.is;
-      says = subst (λ (os : List Opened). AllByRecursion (IsShownBy h.db row.id) (documents_of os)) is (all_shown h.db row.id h.asked);
+      says = subst (λ (os : List Opened). AllByRecursion (IsShownBy h.db row.id) (documents_of_opened os)) is (all_shown h.db row.id h.asked);
     }

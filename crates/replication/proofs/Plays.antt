@@ -12,19 +12,19 @@ use Rattle.tree.specs.HistoryCode.{held_code}
 use Rattle.tree.specs.Revision.{revision_code}
 use Rattle.store.specs.Database.{Database, history_at}
 use Rattle.node.specs.Runs.{Steps}
-use Rattle.repl.specs.Configuration.{Configuration}
+use Rattle.repl.specs.Configuration.{PassConfiguration}
 use Rattle.repl.specs.Passes.{Pass, asked_of}
 use Rattle.repl.specs.Turns.{after_turn}
 use Rattle.passes.specs.Owed.{listed_after}
-use Rattle.world.specs.Exchanging.{IsAskedBy}
+use Rattle.world.specs.Exchanging.{IsAsked}
 use Rattle.world.specs.Happening.{Happening, Sight, comes, exchanges}
 use Rattle.world.specs.Keeping.{StaysAt}
 use Rattle.world.specs.Network.{Network, Transfer, transfer_at}
-use Rattle.world.specs.Playing.{HappensBy, PlaysBy}
-use Rattle.world.specs.Service.{Asker, IsHandled, HandlingOf}
+use Rattle.world.specs.Playing.{Happens, Plays}
+use Rattle.world.specs.Service.{Asker, Handling, IsHandled, alike}
 use Rattle.world.specs.declared.fate.Fate.{Fate}
 use Rattle.replication.specs.Requests.{requests_of}
-use Rattle.replication.specs.Runs.{Run, RunOf}
+use Rattle.replication.specs.Runs.{Run}
 use Rattle.replication.proofs.Again.{run_again}
 use Rattle.replication.specs.Finished.{IsTold, database_at, source_of, target_of}
 use Rattle.replication.proofs.Keepings.{LawfulAt, all_lawful, lawful_at}
@@ -33,8 +33,8 @@ use Rattle.replication.proofs.Sound.{IsSound as IsSoundPass, first_sound}
 use Rattle.replication.specs.Agreement.{HaveSameTree}
 use Rattle.replication.specs.Appended.{KeepsDocuments}
 use Rattle.replication.specs.Converged.{HasCopiedAll, IsPair}
-use Rattle.replication.specs.Crossing.{Crossed, Crosses, Crossing, Move, goes_back, goes_there, others}
-use Rattle.replication.specs.Networks.{AreAhead, AreOpposite, AreTheirs, BecomesAt, Course, HasEnded, IsAhead, IsArranged, IsOneOf, KeepsBoth, PassesOfANetworkConverge, Stage, StaysOrStarts, arranges, runs, AreReconcilable, CoursesKeepAgreement, CoursesKeepBoth}
+use Rattle.replication.specs.Crossing.{Crossed, Crosses, PairState, Move, goes_back, goes_there, others}
+use Rattle.replication.specs.Networks.{AreAhead, AreOpposite, AreTheirs, BecomesAt, QuietCourse, HasEnded, IsAhead, ArrangesPasses, IsOneOf, KeepsBoth, PassesOfANetworkConverge, QuietStage, StaysOrStarts, TwoPasses, arranges, runs, AreReconcilable, CoursesKeepAgreement, CoursesKeepBoth}
 use Rattle.replication.specs.Sound.{IsReplicable, IsSound}
 use Rattle.replication.proofs.Handlings.{Nodes, into, lawful_after}
 use Rattle.replication.proofs.Others.{others_asked, others_service}
@@ -46,12 +46,14 @@ use Rattle.replication.proofs.Turnings.{HasTurned, has_turned, turned}
 -- ---- a request of the two passes, or of others
 
 -- A request is handled. Where neither of the two passes asks, both databases stay, and no document is written in them.
-abbrev Only : ℕ → ℕ → Transfer → HandlingOf Contents
+abbrev Only : ℕ → ℕ → Transfer → Handling Contents
 Only p q t who old place m reply new = IsHandled Steps old place m reply new × (IsOneOf p q who ⊎ KeepsBoth t old new)
 
-only_theirs : (p q : ℕ) (t : Transfer) (old new : Network Contents) (run : RunOf Steps old new) → AreTheirs p q t (requests_of run) → Run (Only p q t) old new
-only_theirs p q t old new run h =
-    (run_again (λ who. IsHandled Steps) (Only p q t) (λ r. IsOneOf p q r.who ⊎ KeepsBoth t r.old r.new) (λ who a place m r b handled theirs. (handled, theirs)) old new run h).0
+only_theirs : (two : TwoPasses) (old new : Network Contents) (run : Run (alike Steps) old new) → AreTheirs two (requests_of run)
+    → Run (Only two.there_number two.back_number two.there) old new
+only_theirs two old new run h =
+    (run_again (alike Steps) (Only two.there_number two.back_number two.there) (λ r. IsOneOf two.there_number two.back_number r.who ⊎ KeepsBoth two.there r.old r.new)
+    (λ who a place m r b handled theirs. (handled, theirs)) old new run h).0
 
 -- ---- what others do
 
@@ -102,7 +104,7 @@ present t pass x there (inr none) is = absurd (let k : (let y : Option Transfer 
 here_still : (t : Transfer) (pass : Pass) (before after : Option Transfer) → after ≡ before → IsHere t pass before → IsHere t pass after
 here_still t pass before after e h = subst (IsHere t pass) (sym e) h
 
-record Stand (p q : ℕ) (t u : Transfer) (base : Nodes) (now : Network Contents) (c : Crossing) : Type 0 where
+record Stand (p q : ℕ) (t u : Transfer) (base : Nodes) (now : Network Contents) (c : PairState) : Type 0 where
   there : IsHere t c.there (transfer_at now.transfers p)
   back : IsHere u c.back (transfer_at now.transfers q)
   there_same : c.there.configuration ≡ t.pass.configuration
@@ -122,24 +124,24 @@ stays_moved : (old new : Nodes) (a b : ℕ) (k l : List ℕ) → a ≡ b → k �
 stays_moved old new a b k l e f stays = subst (λ (x : ℕ). StaysAt old new x l) e (subst (λ (n : List ℕ). StaysAt old new a n) f stays)
 
 -- some moves on
-record Next (p q : ℕ) (t u : Transfer) (base : Nodes) (new : Network Contents) (c : Crossing) : Type 0 where
+record Next (p q : ℕ) (t u : Transfer) (base : Nodes) (new : Network Contents) (c : PairState) : Type 0 where
   moves : List Move
-  crossing : Crossing
+  crossing : PairState
   crosses : Crosses moves c crossing
   stand : Stand p q t u base new crossing
 
-crosses_more : (ms ns : List Move) (a b c : Crossing) → Crosses ms a b → Crosses ns b c → Crosses (ms ++ ns) a c
-crosses_more [] ns a b c is then = subst (λ (x : Crossing). Crosses ns x c) is then
+crosses_more : (ms ns : List Move) (a b c : PairState) → Crosses ms a b → Crosses ns b c → Crosses (ms ++ ns) a c
+crosses_more [] ns a b c is then = subst (λ (x : PairState). Crosses ns x c) is then
 crosses_more (m ∷ ms) ns a b c (between, here, later) then = (between, here, crosses_more ms ns between b c later then)
 
 -- others do what writes no document
 module _ (p q : ℕ) (t u : Transfer) (base : Nodes) where
-  others_move : (old new : Network Contents) (c : Crossing) → Stand p q t u base old c → Spares t old.nodes new.nodes → transfer_at new.transfers p ≡ transfer_at old.transfers p
+  others_move : (old new : Network Contents) (c : PairState) → Stand p q t u base old c → Spares t old.nodes new.nodes → transfer_at new.transfers p ≡ transfer_at old.transfers p
       → transfer_at new.transfers q ≡ transfer_at old.transfers q → Next p q t u base new c
   others_move old new c s spares there back =
       let a = into old.nodes t.from t.pass.configuration.source_db new.nodes KeepsDocuments spares.both.0 c.one s.one in
       let b = into old.nodes t.to t.pass.configuration.target_db new.nodes KeepsDocuments spares.both.1 c.other s.other in
-      let after : Crossing = record c { one = a.0; other = b.0 } in
+      let after : PairState = record c { one = a.0; other = b.0 } in
       record {
         moves = others ∷ [];
         crossing = after;
@@ -159,15 +161,15 @@ module _ (p q : ℕ) (t u : Transfer) (base : Nodes) where
         };
       }
 
-  no_move : (old new : Network Contents) (c : Crossing) → new ≡ old → Stand p q t u base old c → Next p q t u base new c
+  no_move : (old new : Network Contents) (c : PairState) → new ≡ old → Stand p q t u base old c → Next p q t u base new c
   no_move old new c e s = record { moves = []; crossing = c; crosses = refl; stand = subst (λ (x : Network Contents). Stand p q t u base x c) (sym e) s }
 
   -- the pass there has a turn
-  there_move : (old new : Network Contents) (c : Crossing) → p ≢ q → transfer_at old.transfers p ≡ Some (record t { pass = c.there }) → Stand p q t u base old c → HasTurned p (record t { pass = c.there }) old new c.one c.other c.one_listed → Next p q t u base new c
+  there_move : (old new : Network Contents) (c : PairState) → p ≢ q → transfer_at old.transfers p ≡ Some (record t { pass = c.there }) → Stand p q t u base old c → HasTurned p (record t { pass = c.there }) old new c.one c.other c.one_listed → Next p q t u base new c
   there_move old new c apart at s h =
       let listed = listed_after c.there.phase c.one c.one_listed h.turn in
       let pass = after_turn c.there h.turn in
-      let after : Crossing = record c { one = h.source_now; other = h.target_now; there = pass; one_listed = listed } in
+      let after : PairState = record c { one = h.source_now; other = h.target_now; there = pass; one_listed = listed } in
       record {
         moves = goes_there h.turn ∷ [];
         crossing = after;
@@ -181,21 +183,21 @@ module _ (p q : ℕ) (t u : Transfer) (base : Nodes) where
           there_sound = h.sound;
           back_sound = s.back_sound;
           lawful = h.lawful;
-          one = at_moved new.nodes t.from t.from c.there.configuration.source_db t.pass.configuration.source_db h.source_now refl (ap (λ (k : Configuration). k.source_db) s.there_same) h.source_at;
-          other = at_moved new.nodes t.to t.to c.there.configuration.target_db t.pass.configuration.target_db h.target_now refl (ap (λ (k : Configuration). k.target_db) s.there_same) h.target_at;
+          one = at_moved new.nodes t.from t.from c.there.configuration.source_db t.pass.configuration.source_db h.source_now refl (ap (λ (k : PassConfiguration). k.source_db) s.there_same) h.source_at;
+          other = at_moved new.nodes t.to t.to c.there.configuration.target_db t.pass.configuration.target_db h.target_now refl (ap (λ (k : PassConfiguration). k.target_db) s.there_same) h.target_at;
           one_stays = stays_still base old.nodes new.nodes t.from t.pass.configuration.source_db s.one_stays
-              (stays_moved old.nodes new.nodes t.from t.from c.there.configuration.source_db t.pass.configuration.source_db refl (ap (λ (k : Configuration). k.source_db) s.there_same) h.source_stays);
+              (stays_moved old.nodes new.nodes t.from t.from c.there.configuration.source_db t.pass.configuration.source_db refl (ap (λ (k : PassConfiguration). k.source_db) s.there_same) h.source_stays);
           other_stays = stays_still base old.nodes new.nodes t.to t.pass.configuration.target_db s.other_stays
-              (stays_moved old.nodes new.nodes t.to t.to c.there.configuration.target_db t.pass.configuration.target_db refl (ap (λ (k : Configuration). k.target_db) s.there_same) h.target_stays);
+              (stays_moved old.nodes new.nodes t.to t.to c.there.configuration.target_db t.pass.configuration.target_db refl (ap (λ (k : PassConfiguration). k.target_db) s.there_same) h.target_stays);
         };
       }
 
   -- the pass back has a turn
-  back_move : (old new : Network Contents) (c : Crossing) → AreOpposite t u → p ≢ q → transfer_at old.transfers q ≡ Some (record u { pass = c.back }) → Stand p q t u base old c → HasTurned q (record u { pass = c.back }) old new c.other c.one c.other_listed → Next p q t u base new c
+  back_move : (old new : Network Contents) (c : PairState) → AreOpposite t u → p ≢ q → transfer_at old.transfers q ≡ Some (record u { pass = c.back }) → Stand p q t u base old c → HasTurned q (record u { pass = c.back }) old new c.other c.one c.other_listed → Next p q t u base new c
   back_move old new c o apart at s h =
       let listed = listed_after c.back.phase c.other c.other_listed h.turn in
       let pass = after_turn c.back h.turn in
-      let after : Crossing = record c { one = h.target_now; other = h.source_now; back = pass; other_listed = listed } in
+      let after : PairState = record c { one = h.target_now; other = h.source_now; back = pass; other_listed = listed } in
       record {
         moves = goes_back h.turn ∷ [];
         crossing = after;
@@ -209,12 +211,12 @@ module _ (p q : ℕ) (t u : Transfer) (base : Nodes) where
           there_sound = s.there_sound;
           back_sound = h.sound;
           lawful = h.lawful;
-          one = at_moved new.nodes u.to t.from c.back.configuration.target_db t.pass.configuration.source_db h.target_now o.to (ap (λ (k : Configuration). k.target_db) s.back_same ∙ o.target) h.target_at;
-          other = at_moved new.nodes u.from t.to c.back.configuration.source_db t.pass.configuration.target_db h.source_now o.from (ap (λ (k : Configuration). k.source_db) s.back_same ∙ o.source) h.source_at;
+          one = at_moved new.nodes u.to t.from c.back.configuration.target_db t.pass.configuration.source_db h.target_now o.to (ap (λ (k : PassConfiguration). k.target_db) s.back_same ∙ o.target) h.target_at;
+          other = at_moved new.nodes u.from t.to c.back.configuration.source_db t.pass.configuration.target_db h.source_now o.from (ap (λ (k : PassConfiguration). k.source_db) s.back_same ∙ o.source) h.source_at;
           one_stays = stays_still base old.nodes new.nodes t.from t.pass.configuration.source_db s.one_stays
-              (stays_moved old.nodes new.nodes u.to t.from c.back.configuration.target_db t.pass.configuration.source_db o.to (ap (λ (k : Configuration). k.target_db) s.back_same ∙ o.target) h.target_stays);
+              (stays_moved old.nodes new.nodes u.to t.from c.back.configuration.target_db t.pass.configuration.source_db o.to (ap (λ (k : PassConfiguration). k.target_db) s.back_same ∙ o.target) h.target_stays);
           other_stays = stays_still base old.nodes new.nodes t.to t.pass.configuration.target_db s.other_stays
-              (stays_moved old.nodes new.nodes u.from t.to c.back.configuration.source_db t.pass.configuration.target_db o.from (ap (λ (k : Configuration). k.source_db) s.back_same ∙ o.source) h.source_stays);
+              (stays_moved old.nodes new.nodes u.from t.to c.back.configuration.source_db t.pass.configuration.target_db o.from (ap (λ (k : PassConfiguration). k.source_db) s.back_same ∙ o.source) h.source_stays);
         };
       }
 
@@ -222,38 +224,38 @@ module _ (p q : ℕ) (t u : Transfer) (base : Nodes) where
   handled who old place m r new h = h.0
 
   -- an exchange of the pass there
-  there_asks : (fate : Fate) (old new : Network Contents) (c : Crossing) (seen : List Sight) → AreOpposite t u → p ≢ q → transfer_at old.transfers p ≡ Some (record t { pass = c.there }) → Stand p q t u base old c
-      → IsAskedBy (Only p q t) fate old p (record t { pass = c.there }) (asked_of c.there) seen new → Next p q t u base new c
+  there_asks : (fate : Fate) (old new : Network Contents) (c : PairState) (seen : List Sight) → AreOpposite t u → p ≢ q → transfer_at old.transfers p ≡ Some (record t { pass = c.there }) → Stand p q t u base old c
+      → IsAsked (Only p q t) fate old p (record t { pass = c.there }) (asked_of c.there) seen new → Next p q t u base new c
   there_asks fate old new c seen o apart at s i =
       let x : Transfer = record t { pass = c.there } in
       let told = subst IsTold (sym s.there_same) o.there_told in
-      let distinct : t.from ≡ t.to → c.there.configuration.source_db ≢ c.there.configuration.target_db = subst (λ (k : Configuration). t.from ≡ t.to → k.source_db ≢ k.target_db) (sym s.there_same) o.apart in
-      let one : database_at old.nodes t.from c.there.configuration.source_db ≡ c.one = subst (λ (k : Configuration). database_at old.nodes t.from k.source_db ≡ c.one) (sym s.there_same) s.one in
-      let other : database_at old.nodes t.to c.there.configuration.target_db ≡ c.other = subst (λ (k : Configuration). database_at old.nodes t.to k.target_db ≡ c.other) (sym s.there_same) s.other in
+      let distinct : t.from ≡ t.to → c.there.configuration.source_db ≢ c.there.configuration.target_db = subst (λ (k : PassConfiguration). t.from ≡ t.to → k.source_db ≢ k.target_db) (sym s.there_same) o.apart in
+      let one : database_at old.nodes t.from c.there.configuration.source_db ≡ c.one = subst (λ (k : PassConfiguration). database_at old.nodes t.from k.source_db ≡ c.one) (sym s.there_same) s.one in
+      let other : database_at old.nodes t.to c.there.configuration.target_db ≡ c.other = subst (λ (k : PassConfiguration). database_at old.nodes t.to k.target_db ≡ c.other) (sym s.there_same) s.other in
       ⊎_elim
       (λ e. no_move old new c e s)
       (λ h. there_move old new c apart at s (has_turned p x old new c.one c.other c.one_listed s.lawful one other h))
       (turned (Only p q t) handled fate old new p x seen told distinct s.lawful s.there_sound c.there.phase i)
 
   -- an exchange of the pass back
-  back_asks : (fate : Fate) (old new : Network Contents) (c : Crossing) (seen : List Sight) → AreOpposite t u → p ≢ q → transfer_at old.transfers q ≡ Some (record u { pass = c.back }) → Stand p q t u base old c
-      → IsAskedBy (Only p q t) fate old q (record u { pass = c.back }) (asked_of c.back) seen new → Next p q t u base new c
+  back_asks : (fate : Fate) (old new : Network Contents) (c : PairState) (seen : List Sight) → AreOpposite t u → p ≢ q → transfer_at old.transfers q ≡ Some (record u { pass = c.back }) → Stand p q t u base old c
+      → IsAsked (Only p q t) fate old q (record u { pass = c.back }) (asked_of c.back) seen new → Next p q t u base new c
   back_asks fate old new c seen o apart at s i =
       let x : Transfer = record u { pass = c.back } in
       let told = subst IsTold (sym s.back_same) o.back_told in
       let distinct : u.from ≡ u.to → c.back.configuration.source_db ≢ c.back.configuration.target_db =
       λ e f.
       o.apart (sym o.to ∙ sym e ∙ o.from)
-      (sym o.target ∙ sym (ap (λ (k : Configuration). k.target_db) s.back_same) ∙ sym f ∙ ap (λ (k : Configuration). k.source_db) s.back_same ∙ o.source) in
-      let other = at_moved old.nodes t.to u.from t.pass.configuration.target_db c.back.configuration.source_db c.other (sym o.from) (sym (ap (λ (k : Configuration). k.source_db) s.back_same ∙ o.source)) s.other in
-      let one = at_moved old.nodes t.from u.to t.pass.configuration.source_db c.back.configuration.target_db c.one (sym o.to) (sym (ap (λ (k : Configuration). k.target_db) s.back_same ∙ o.target)) s.one in
+      (sym o.target ∙ sym (ap (λ (k : PassConfiguration). k.target_db) s.back_same) ∙ sym f ∙ ap (λ (k : PassConfiguration). k.source_db) s.back_same ∙ o.source) in
+      let other = at_moved old.nodes t.to u.from t.pass.configuration.target_db c.back.configuration.source_db c.other (sym o.from) (sym (ap (λ (k : PassConfiguration). k.source_db) s.back_same ∙ o.source)) s.other in
+      let one = at_moved old.nodes t.from u.to t.pass.configuration.source_db c.back.configuration.target_db c.one (sym o.to) (sym (ap (λ (k : PassConfiguration). k.target_db) s.back_same ∙ o.target)) s.one in
       ⊎_elim
       (λ e. no_move old new c e s)
       (λ h. back_move old new c o apart at s (has_turned q x old new c.other c.one c.other_listed s.lawful other one h))
       (turned (Only p q t) handled fate old new q x seen told distinct s.lawful s.back_sound c.back.phase i)
 
-  exchange_moves : (number : ℕ) (fate : Fate) (old new : Network Contents) (c : Crossing) (seen : List Sight) (x : Transfer) → AreOpposite t u → p ≢ q → Stand p q t u base old c
-      → transfer_at old.transfers number ≡ Some x → IsAskedBy (Only p q t) fate old number x (asked_of x.pass) seen new → Next p q t u base new c
+  exchange_moves : (number : ℕ) (fate : Fate) (old new : Network Contents) (c : PairState) (seen : List Sight) (x : Transfer) → AreOpposite t u → p ≢ q → Stand p q t u base old c
+      → transfer_at old.transfers number ≡ Some x → IsAsked (Only p q t) fate old number x (asked_of x.pass) seen new → Next p q t u base new c
   exchange_moves number fate old new c seen x o apart s there i = by (cases_eq number p) (cases_eq number q)
     where
       as_there : number ≡ p → Next p q t u base new c
@@ -261,16 +263,16 @@ module _ (p q : ℕ) (t u : Transfer) (base : Nodes) where
           let at = present t c.there x (transfer_at old.transfers p) s.there (ap (transfer_at old.transfers) (sym e) ∙ there) in
           let same : x ≡ record t { pass = c.there } = one_transfer x (record t { pass = c.there }) (sym there ∙ ap (transfer_at old.transfers) e ∙ at) in
           there_asks fate old new c seen o apart at s
-          (subst (λ (y : Transfer). IsAskedBy (Only p q t) fate old p y (asked_of y.pass) seen new) same
-          (subst (λ (n : ℕ). IsAskedBy (Only p q t) fate old n x (asked_of x.pass) seen new) e i))
+          (subst (λ (y : Transfer). IsAsked (Only p q t) fate old p y (asked_of y.pass) seen new) same
+          (subst (λ (n : ℕ). IsAsked (Only p q t) fate old n x (asked_of x.pass) seen new) e i))
 
       as_back : number ≡ q → Next p q t u base new c
       as_back e =
           let at = present u c.back x (transfer_at old.transfers q) s.back (ap (transfer_at old.transfers) (sym e) ∙ there) in
           let same : x ≡ record u { pass = c.back } = one_transfer x (record u { pass = c.back }) (sym there ∙ ap (transfer_at old.transfers) e ∙ at) in
           back_asks fate old new c seen o apart at s
-          (subst (λ (y : Transfer). IsAskedBy (Only p q t) fate old q y (asked_of y.pass) seen new) same
-          (subst (λ (n : ℕ). IsAskedBy (Only p q t) fate old n x (asked_of x.pass) seen new) e i))
+          (subst (λ (y : Transfer). IsAsked (Only p q t) fate old q y (asked_of y.pass) seen new) same
+          (subst (λ (n : ℕ). IsAsked (Only p q t) fate old n x (asked_of x.pass) seen new) e i))
 
       by : (number ≡ p) ⊎ (number ≢ p) → (number ≡ q) ⊎ (number ≢ q) → Next p q t u base new c
       by (inl e) other = as_there e
@@ -279,14 +281,14 @@ module _ (p q : ℕ) (t u : Transfer) (base : Nodes) where
           let k = others_asked (Only p q t) (Spares t) (spares_itself t) (spares_still t) (IsOther p q) (spared p q t) fate old new number x (asked_of x.pass) seen (λ one. ⊎_elim e f one) i in
           others_move old new c s k.nodes (k.passes p (λ same. e (sym same))) (k.passes q (λ same. f (sym same)))
 
-  event_moves : (h : Happening) (old new : Network Contents) (c : Crossing) (seen : List Sight) → AreOpposite t u → p ≢ q → Stand p q t u base old c → HappensBy (Only p q t) old h seen new → Next p q t u base new c
+  event_moves : (h : Happening) (old new : Network Contents) (c : PairState) (seen : List Sight) → AreOpposite t u → p ≢ q → Stand p q t u base old c → Happens (Only p q t) old h seen new → Next p q t u base new c
   event_moves (comes piece) old new c seen o apart s i =
       others_move old new c s
       (others_service (Only p q t) (Spares t) (spares_itself t) (spares_still t) (IsOther p q) (spared p q t) old.homes old.nodes new.nodes i.1.arrivals i.0 (λ conn none. none) i.1.served)
       (ap (λ (ts : List Transfer). transfer_at ts p) i.1.transfers) (ap (λ (ts : List Transfer). transfer_at ts q) i.1.transfers)
   event_moves (exchanges number fate) old new c seen o apart s i = exchange_moves number fate old new c seen i.transfer o apart s i.there i.asked
 
-  play_moves : (hs : List Happening) (old new : Network Contents) (c : Crossing) (seen : List Sight) → AreOpposite t u → p ≢ q → Stand p q t u base old c → PlaysBy (Only p q t) old hs seen new → Next p q t u base new c
+  play_moves : (hs : List Happening) (old new : Network Contents) (c : PairState) (seen : List Sight) → AreOpposite t u → p ≢ q → Stand p q t u base old c → Plays (Only p q t) old hs seen new → Next p q t u base new c
   play_moves [] old new c seen o apart s i = no_move old new c i.1 s
   play_moves (h ∷ hs) old new c seen o apart s (first, rest, between, here, later, order) =
       let k = event_moves h old between c first o apart s here in
@@ -300,7 +302,8 @@ module _ (p q : ℕ) (t u : Transfer) (base : Nodes) where
   here_now v pass before after (inr k) (inl e) = absurd (let x : (let y : Option Transfer = None in y) ≡ Some (record v { pass = pass }) = sym k.0 ∙ e in cc)
   here_now v pass before after (inr k) (inr none) = inl (k.1 ∙ ap (λ (y : Pass). Some (record v { pass = y })) (sym none.1))
 
-  arranged_stand : (old new : Network Contents) (c : Crossing) → IsArranged p q t u old new → Stand p q t u base old c → Stand p q t u base new c
+  arranged_stand : (old new : Network Contents) (c : PairState) → ArrangesPasses (record { there = t; back = u; there_number = p; back_number = q }) old new → Stand p q t u base old c
+      → Stand p q t u base new c
   arranged_stand old new c k s = record {
     there = here_now t c.there (transfer_at old.transfers p) (transfer_at new.transfers p) k.there s.there;
     back = here_now u c.back (transfer_at old.transfers q) (transfer_at new.transfers q) k.back s.back;
@@ -315,10 +318,11 @@ module _ (p q : ℕ) (t u : Transfer) (base : Nodes) where
     other_stays = subst (λ (n : Nodes). StaysAt base n t.to t.pass.configuration.target_db) (sym k.nodes) s.other_stays;
   }
 
-  course_moves : (ss : List Stage) (old new : Network Contents) (c : Crossing) → AreOpposite t u → p ≢ q → Stand p q t u base old c → Course p q t u ss old new → Next p q t u base new c
+  course_moves : (ss : List QuietStage) (old new : Network Contents) (c : PairState) → AreOpposite t u → p ≢ q → Stand p q t u base old c
+      → QuietCourse (record { there = t; back = u; there_number = p; back_number = q }) ss old new → Next p q t u base new c
   course_moves [] old new c o apart s i = no_move old new c i s
   course_moves (runs ∷ ss) old new c o apart s (between, run, theirs, later) =
-      let only = only_theirs p q t old between run theirs in
+      let only = only_theirs (record { there = t; back = u; there_number = p; back_number = q }) old between run theirs in
       let k = play_moves only.happenings old between c only.seen o apart s only.played in
       let l = course_moves ss between new k.crossing o apart k.stand later in
       record { moves = k.moves ++ l.moves; crossing = l.crossing; crosses = crosses_more k.moves l.moves c k.crossing l.crossing k.crosses l.crosses; stand = l.stand }
@@ -339,22 +343,22 @@ batch_told (Some size) h = h.0
 same_transfer : (a b : Transfer) → (let x : Option Transfer = Some a in x) ≡ Some b → a ≡ b
 same_transfer a b e = cc
 
-abbrev first_crossing : Transfer → Transfer → Database → Database → Crossing
+abbrev first_crossing : Transfer → Transfer → Database → Database → PairState
 first_crossing t u a b = record { one = a; other = b; there = t.pass; back = u.pass; one_listed = a; other_listed = b }
 
 here_first : (t : Transfer) (there : Option Transfer) → IsAhead t there → IsHere t t.pass there
 here_first t there (inl e) = inl e
 here_first t there (inr e) = inr (e, refl)
 
-stands_first : (p q : ℕ) (t u : Transfer) (old : Network Contents) → AreOpposite t u → AreAhead p q t u old → LawfulAt old.nodes
-    → Stand p q t u old.nodes old (first_crossing t u (source_of t old) (target_of t old))
-stands_first p q t u old o s lawful = record {
-  there = here_first t (transfer_at old.transfers p) s.there;
-  back = here_first u (transfer_at old.transfers q) s.back;
+stands_first : (two : TwoPasses) (old : Network Contents) → AreOpposite two.there two.back → AreAhead two old → LawfulAt old.nodes
+    → Stand two.there_number two.back_number two.there two.back old.nodes old (first_crossing two.there two.back (source_of two.there old) (target_of two.there old))
+stands_first two old o s lawful = record {
+  there = here_first two.there (transfer_at old.transfers two.there_number) s.there;
+  back = here_first two.back (transfer_at old.transfers two.back_number) s.back;
   there_same = refl;
   back_same = refl;
-  there_sound = subst IsSoundPass (sym o.there_first) (first_sound t.pass.configuration);
-  back_sound = subst IsSoundPass (sym o.back_first) (first_sound u.pass.configuration);
+  there_sound = subst IsSoundPass (sym o.there_first) (first_sound two.there.pass.configuration);
+  back_sound = subst IsSoundPass (sym o.back_first) (first_sound two.back.pass.configuration);
   lawful = lawful;
   one = refl;
   other = refl;
@@ -369,18 +373,20 @@ copied n now t p there ended =
     subst (λ (x : Transfer). HasCopiedAll x.pass) same ended.copied
 
 -- the two databases, and how they came to be as they are
-record Met (p q : ℕ) (t u : Transfer) (base : Nodes) (new : Network Contents) : Type 0 where
+record Met (two : TwoPasses) (base : Nodes) (new : Network Contents) : Type 0 where
   moves : List Move
-  now : Crossing
-  went : Crossed t.pass.configuration u.pass.configuration moves now
+  now : PairState
+  went : Crossed two.there.pass.configuration two.back.pass.configuration moves now
   begins : IsPair went.first.one went.first.other
-  stand : Stand p q t u base new now
+  stand : Stand two.there_number two.back_number two.there two.back base new now
 
-met : (p q : ℕ) (t u : Transfer) (ss : List Stage) (old new : Network Contents) → AreOpposite t u → AreAhead p q t u old → Course p q t u ss old new
-    → AreReconcilable (source_of t old) (target_of t old) → LawfulAt old.nodes → Met p q t u old.nodes new
-met p q t u ss old new o s course pair lawful =
+met : (two : TwoPasses) (ss : List QuietStage) (old new : Network Contents) → AreOpposite two.there two.back → AreAhead two old → QuietCourse two ss old new
+    → AreReconcilable (source_of two.there old) (target_of two.there old) → LawfulAt old.nodes → Met two old.nodes new
+met two ss old new o s course pair lawful =
+    let t = two.there in
+    let u = two.back in
     let c = first_crossing t u (source_of t old) (target_of t old) in
-    let k = course_moves p q t u old.nodes ss old new c o s.two (stands_first p q t u old o s lawful) course in
+    let k = course_moves two.there_number two.back_number t u old.nodes ss old new c o s.apart (stands_first two old o s lawful) course in
     record {
       moves = k.moves;
       now = k.crossing;
@@ -402,24 +408,25 @@ met p q t u ss old new o s course pair lawful =
       stand = k.stand;
     }
 
-met_pair : (p q : ℕ) (t u : Transfer) (base : Nodes) (new : Network Contents) → Met p q t u base new → IsPair (source_of t new) (target_of t new)
-met_pair p q t u base new k =
-    let pair = keep_pair t.pass.configuration u.pass.configuration k.moves k.now k.went k.begins in
-    subst (λ (x : Database). IsPair x (target_of t new)) (sym k.stand.one) (subst (λ (y : Database). IsPair k.now.one y) (sym k.stand.other) pair)
+met_pair : (two : TwoPasses) (base : Nodes) (new : Network Contents) → Met two base new → IsPair (source_of two.there new) (target_of two.there new)
+met_pair two base new k =
+    let pair = keep_pair two.there.pass.configuration two.back.pass.configuration k.moves k.now k.went k.begins in
+    subst (λ (x : Database). IsPair x (target_of two.there new)) (sym k.stand.one) (subst (λ (y : Database). IsPair k.now.one y) (sym k.stand.other) pair)
 
-met_tree : (p q : ℕ) (t u : Transfer) (base : Nodes) (new : Network Contents) → HasEnded p new → HasEnded q new → (id : List ℕ) → Met p q t u base new
-    → HaveSameTree (history_at (source_of t new) id) (history_at (target_of t new) id)
-met_tree p q t u base new there back id k =
+met_tree : (two : TwoPasses) (base : Nodes) (new : Network Contents) → HasEnded two.there_number new → HasEnded two.back_number new → (id : List ℕ) → Met two base new
+    → HaveSameTree (history_at (source_of two.there new) id) (history_at (target_of two.there new) id)
+met_tree two base new there back id k =
     let same : HaveSameTree (history_at k.now.one id) (history_at k.now.other id) =
-    two_converge t.pass.configuration u.pass.configuration k.moves k.now k.went k.begins (copied p new t k.now.there k.stand.there there) (copied q new u k.now.back k.stand.back back) id in
-    subst (λ (x : Database). HaveSameTree (history_at x id) (history_at (target_of t new) id)) (sym k.stand.one)
+    two_converge two.there.pass.configuration two.back.pass.configuration k.moves k.now k.went k.begins
+    (copied two.there_number new two.there k.now.there k.stand.there there) (copied two.back_number new two.back k.now.back k.stand.back back) id in
+    subst (λ (x : Database). HaveSameTree (history_at x id) (history_at (target_of two.there new) id)) (sym k.stand.one)
     (subst (λ (y : Database). HaveSameTree (history_at k.now.one id) (history_at y id)) (sym k.stand.other) same)
 
 pub networks_converge : PassesOfANetworkConverge
-networks_converge p q t u ss old new o s course pair there back id =
+networks_converge two ss old new o s course pair there back id =
     let all = all_lawful old.nodes s.lawful in
-    let by : LawfulAt old.nodes → HaveSameTree (history_at (source_of t new) id) (history_at (target_of t new) id) =
-    λ lawful. met_tree p q t u old.nodes new there back id (met p q t u ss old new o s course pair lawful) in
+    let by : LawfulAt old.nodes → HaveSameTree (history_at (source_of two.there new) id) (history_at (target_of two.there new) id) =
+    λ lawful. met_tree two old.nodes new there back id (met two ss old new o s course pair lawful) in
     record {
       known = λ r. ∥∥₁_elim all (Bool-set _ _) (λ lawful. (by lawful).known r);
       parents = λ r. ∥∥₁_elim all (Coded-set (coded_option revision_code) _ _) (λ lawful. (by lawful).parents r);
@@ -429,9 +436,9 @@ networks_converge p q t u ss old new o s course pair there back id =
     }
 
 pub networks_agree : CoursesKeepAgreement
-networks_agree p q t u ss old new o s course pair =
+networks_agree two ss old new o s course pair =
     let all = all_lawful old.nodes s.lawful in
-    let by : LawfulAt old.nodes → IsPair (source_of t new) (target_of t new) = λ lawful. met_pair p q t u old.nodes new (met p q t u ss old new o s course pair lawful) in
+    let by : LawfulAt old.nodes → IsPair (source_of two.there new) (target_of two.there new) = λ lawful. met_pair two old.nodes new (met two ss old new o s course pair lawful) in
     record {
       one = record {
         plain = λ id r d e. ∥∥₁_elim all (Bool-set _ _) (λ lawful. (by lawful).one.plain id r d e);
@@ -448,10 +455,11 @@ networks_agree p q t u ss old new o s course pair =
     }
 
 pub both_stay : CoursesKeepBoth
-both_stay p q t u ss old new a b o s course ends =
+both_stay two ss old new a b o s course ends =
     ∥∥₁_map (all_lawful old.nodes s.lawful)
     (λ lawful.
-    let k = course_moves p q t u old.nodes ss old new (first_crossing t u (source_of t old) (target_of t old)) o s.two (stands_first p q t u old o s lawful) course in
+    let c = first_crossing two.there two.back (source_of two.there old) (target_of two.there old) in
+    let k = course_moves two.there_number two.back_number two.there two.back old.nodes ss old new c o s.apart (stands_first two old o s lawful) course in
     let one = k.stand.one_stays a ends.source in
     let other = k.stand.other_stays b ends.target in
     (one.0, other.0, record { source = one.1; target = other.1 }))

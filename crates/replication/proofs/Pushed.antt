@@ -12,14 +12,16 @@ use Rattle.policy.specs.declared.action.Action.TheVariants.{WriteDocument}
 use Rattle.tree.specs.History.{HistoryContent}
 use Rattle.store.specs.Contents.{AreAcceptable, Contents, IsAcceptable}
 use Rattle.store.specs.Database.{Database, DocumentWrite, history_at, with_all}
-use Rattle.write.specs.Bulk.{DocumentOutcome, Histories, after, outcome_by_id, outcome_in, outcomes, put_before, writes_in}
+use Rattle.write.specs.Bulk.{DocumentOutcome, Histories, after, document_outcome, outcome_in, outcomes, put_before, writes_in}
+use Rattle.write.specs.Admission.{given}
 use Rattle.write.specs.Document.{id_in}
 use Rattle.write.specs.Terms.{Terms, terms_in}
+use Rattle.write.specs.declared.fault.WriteFault.TheVariants.{BadDocument}
 use Rattle.write.proofs.Acceptances.{after_is, db_after, replicated_acceptable}
 use Rattle.write.proofs.Outcomes.{IsReplicated, replicated_accepted}
-use Rattle.api.specs.Asking.{asker, body_of, method_of, plain}
+use Rattle.api.specs.Asking.{asker, json_body, method_named, plain}
 use Rattle.api.specs.Bulk.{Bulk, bulk_in}
-use Rattle.api.specs.Refusals.{next, there_or}
+use Rattle.api.specs.Refusals.{and_then, there_or}
 use Rattle.api.specs.Routing.{page_of}
 use Rattle.api.specs.Paths.{database_name_in}
 use Rattle.api.specs.declared.method.RequestMethod.TheVariants.{Post}
@@ -27,12 +29,12 @@ use Rattle.api.specs.declared.page.Page.{Page}
 use Rattle.api.specs.declared.page.Page.TheVariants.{Welcome, AllDatabases, Database as DatabasePage, Security, BulkDocuments, AllDocuments, Changes, Differences, Find, Index, View, Document, LocalDocument}
 use Rattle.api.specs.declared.refusal.Refusal.{Refusal}
 use Rattle.api.specs.declared.refusal.Refusal.TheVariants.{Body, Method, Path}
-use Rattle.node.specs.Answer.{Change, Outcome, Task, inside, judgement, kept, outcome_in as outcome_at, page_outcome, settlement, task_of, task_outcome, with_change, with_effect_at}
+use Rattle.node.specs.Answer.{Change, Outcome, Task, inside, judgement, kept, outcome_in_database as outcome_at, page_outcome, settlement, task_of, task_outcome, with_change, with_effect_at}
 use Rattle.node.specs.Work.{Done, appended}
 use Rattle.node.specs.Works.{bulk_done, bulk_written, difference_list, document_finds, documents_written, index_asked_in, index_written}
 use Rattle.node.proofs.Tasks.{named as was_named, same, went}
 use Rattle.repl.specs.Calls.{documents_value, push_documents, request_of}
-use Rattle.repl.specs.Configuration.{database_of}
+use Rattle.repl.specs.Configuration.{database_of_side}
 use Rattle.passes.proofs.Comparing.{value_was}
 use Rattle.passes.proofs.Judged.{never, read_out, there_never, work_out}
 use Rattle.passes.proofs.Spellings.{leads_into}
@@ -48,7 +50,7 @@ one_said : (terms : Terms) (id : List ℕ) (h : HistoryContent) (v : Value) (w :
 one_said terms id h v w named k =
     subst (IsSaidBy v) (sym k.taken.1) (record { rev = k.sent.rev; ancestry = k.ancestry; named = named; says = k.says; leads = k.leads; path = refl })
 
-said_by_id : (terms : Terms) (db : Database) (v : Value) (id : Option (List ℕ)) (w : DocumentWrite) → id_in v ≡ id → outcome_by_id terms false (history_at db) v id ≡ Ok (Some w) → IsSaidBy v w × IsAcceptable db w
+said_by_id : (terms : Terms) (db : Database) (v : Value) (id : Option (List ℕ)) (w : DocumentWrite) → id_in v ≡ id → given BadDocument id (λ k. document_outcome terms false k (history_at db k) v) ≡ Ok (Some w) → IsSaidBy v w × IsAcceptable db w
 said_by_id terms db v None w named e = absurd cc
 said_by_id terms db v (Some id) w named e =
     (one_said terms id (history_at db id) v w named (replicated_accepted terms id (history_at db id) v (Some w) e), replicated_acceptable terms db id v w e)
@@ -91,15 +93,15 @@ record HasPushed (a : Contents) (m : Message) (documents : List Value) (change :
   is : change ≡ inside name (appended (writes_in (outcomes terms false (history_at db) documents)))
 
 abbrev HasBodyOf : Message → Value → Type 0
-HasBodyOf m v = (w : Value) → body_of m ≡ Ok w → w ≡ v
+HasBodyOf m v = (w : Value) → json_body m ≡ Ok w → w ≡ v
 
 asked_back : (vs : List Value) → bulk_in (documents_value vs) ≡ Some (replica_bulk vs)
 asked_back vs = ap (λ (xs : List Value). Some (replica_bulk xs)) (elements_back vs)
 
 never_index : (caller : auth.Identity) (m : Message) (name : List ℕ) (db : Database) (d : Done) (documents : List Value) → HasBodyOf m (documents_value documents) → index_written caller m name db ≡ Ok d → ⊥
 never_index caller m name db d documents body e =
-    let k = went (plain m) (λ _. next (body_of m) (λ value. next (there_or Body (index_in value)) (λ asked. index_asked_in caller name db asked))) d e in
-    let l = went (body_of m) (λ value. next (there_or Body (index_in value)) (λ asked. index_asked_in caller name db asked)) d k.then in
+    let k = went (plain m) (λ _. and_then (json_body m) (λ value. and_then (there_or Body (index_in value)) (λ asked. index_asked_in caller name db asked))) d e in
+    let l = went (json_body m) (λ value. and_then (there_or Body (index_in value)) (λ asked. index_asked_in caller name db asked)) d k.then in
     there_never Body (index_in l.first) (λ asked. index_asked_in caller name db asked) d (ap index_in (body l.first l.was)) l.then
 
 at_page : (page : Page) (caller : auth.Identity) (a : Contents) (m : Message) (documents : List Value) (task : Task) (o : Outcome) → HasBodyOf m (documents_value documents)
@@ -110,8 +112,8 @@ at_page DatabasePage caller a m documents task o body e f = absurd (never Method
 at_page Security caller a m documents task o body e f = absurd (never Method task e)
 at_page BulkDocuments caller a m documents task o body e f =
     let w = work_out caller a m WriteDocument (λ name. documents_written caller m name) task o e f in
-    let p = went (plain m) (λ _. next (body_of m) (λ value. next (there_or Body (bulk_in value)) (λ bulk. bulk_written caller bulk w.name w.db))) w.done w.was in
-    let l = went (body_of m) (λ value. next (there_or Body (bulk_in value)) (λ bulk. bulk_written caller bulk w.name w.db)) w.done p.then in
+    let p = went (plain m) (λ _. and_then (json_body m) (λ value. and_then (there_or Body (bulk_in value)) (λ bulk. bulk_written caller bulk w.name w.db))) w.done w.was in
+    let l = went (json_body m) (λ value. and_then (there_or Body (bulk_in value)) (λ bulk. bulk_written caller bulk w.name w.db)) w.done p.then in
     let b = went (there_or Body (bulk_in l.first)) (λ bulk. bulk_written caller bulk w.name w.db) w.done l.then in
     let terms = terms_in caller w.name w.db in
     let bulk : replica_bulk documents ≡ b.first =
@@ -137,12 +139,12 @@ at_page View caller a m documents task o body e f = absurd (never Method task e)
 at_page Document caller a m documents task o body e f = absurd (never Method task e)
 at_page LocalDocument caller a m documents task o body e f = absurd (never Method task e)
 
-judged_pushed : (c : auth.Configuration) (a : Contents) (m : Message) (documents : List Value) (o : Outcome) → method_of m.method ≡ Some Post → HasBodyOf m (documents_value documents)
+judged_pushed : (c : auth.Configuration) (a : Contents) (m : Message) (documents : List Value) (o : Outcome) → method_named m.method ≡ Some Post → HasBodyOf m (documents_value documents)
     → judgement c a m ≡ Ok o → (o.change ≡ kept) ⊎ HasPushed a m documents o.change
 judged_pushed c a m documents o post body e =
-    let k = went (asker c m) (λ caller. next (there_or Path (page_of m.path)) (λ page. page_outcome page (method_of m.method) caller a m)) o e in
-    let l = went (there_or Path (page_of m.path)) (λ page. page_outcome page (method_of m.method) k.first a m) o k.then in
-    let t = went (task_of l.first (method_of m.method) k.first m) (λ task. task_outcome k.first a task) o l.then in
+    let k = went (asker c m) (λ caller. and_then (there_or Path (page_of m.path)) (λ page. page_outcome page (method_named m.method) caller a m)) o e in
+    let l = went (there_or Path (page_of m.path)) (λ page. page_outcome page (method_named m.method) k.first a m) o k.then in
+    let t = went (task_of l.first (method_named m.method) k.first m) (λ task. task_outcome k.first a task) o l.then in
     at_page l.first k.first a m documents t.first o body (ap (λ x. task_of l.first x k.first m) (sym post) ∙ t.was) t.then
 
 -- ---- what becomes of the databases
@@ -165,21 +167,21 @@ put_pushed a name documents db terms there =
 
 pub push_appends : PushesAppendWhatIsSaid
 push_appends c before k side documents r after small lawful (inl done) =
-    subst (λ (x : Contents). Pushed before (database_of k side) documents x) (sym done.1) (by (judgement c before (request_of k side (push_documents documents))) refl)
+    subst (λ (x : Contents). Pushed before (database_of_side k side) documents x) (sym done.1) (by (judgement c before (request_of k side (push_documents documents))) refl)
   where
     body : HasBodyOf (request_of k side (push_documents documents)) (documents_value documents)
     body w f = sym (what_was_read (documents_value documents) w lawful (value_was (reading (request_of k side (push_documents documents)).body) w f))
 
-    did : (change : Change) → (change ≡ kept) ⊎ HasPushed before (request_of k side (push_documents documents)) documents change → Pushed before (database_of k side) documents (with_change change before)
-    did change (inl is) = subst (λ (x : Change). Pushed before (database_of k side) documents (with_change x before)) (sym is) (unchanged before (database_of k side) documents)
+    did : (change : Change) → (change ≡ kept) ⊎ HasPushed before (request_of k side (push_documents documents)) documents change → Pushed before (database_of_side k side) documents (with_change change before)
+    did change (inl is) = subst (λ (x : Change). Pushed before (database_of_side k side) documents (with_change x before)) (sym is) (unchanged before (database_of_side k side) documents)
     did change (inr h) =
-        let into : database_of k side ≡ h.name = leads_into (database_of k side) (codes "_bulk_docs") h.name small h.own in
-        subst (λ (x : Change). Pushed before (database_of k side) documents (with_change x before)) (sym h.is)
+        let into : database_of_side k side ≡ h.name = leads_into (database_of_side k side) (codes "_bulk_docs") h.name small h.own in
+        subst (λ (x : Change). Pushed before (database_of_side k side) documents (with_change x before)) (sym h.is)
         (subst (λ (n : List ℕ). Pushed before n documents (with_change (inside h.name (appended (writes_in (outcomes h.terms false (history_at h.db) documents)))) before)) (sym into)
         (put_pushed before h.name documents h.db h.terms h.there))
 
-    by : (j : Result Outcome Refusal) → judgement c before (request_of k side (push_documents documents)) ≡ j → Pushed before (database_of k side) documents (with_change (settlement j).change before)
+    by : (j : Result Outcome Refusal) → judgement c before (request_of k side (push_documents documents)) ≡ j → Pushed before (database_of_side k side) documents (with_change (settlement j).change before)
     by (Ok o) is = did o.change (judged_pushed c before (request_of k side (push_documents documents)) documents o refl body is)
-    by (Err refusal) is = unchanged before (database_of k side) documents
-push_appends c before k side documents r after small lawful (inr (inl none)) = subst (λ (x : Contents). Pushed before (database_of k side) documents x) (sym none.1) (unchanged before (database_of k side) documents)
-push_appends c before k side documents r after small lawful (inr (inr failed)) = subst (λ (x : Contents). Pushed before (database_of k side) documents x) (sym failed.1) (unchanged before (database_of k side) documents)
+    by (Err refusal) is = unchanged before (database_of_side k side) documents
+push_appends c before k side documents r after small lawful (inr (inl none)) = subst (λ (x : Contents). Pushed before (database_of_side k side) documents x) (sym none.1) (unchanged before (database_of_side k side) documents)
+push_appends c before k side documents r after small lawful (inr (inr failed)) = subst (λ (x : Contents). Pushed before (database_of_side k side) documents x) (sym failed.1) (unchanged before (database_of_side k side) documents)

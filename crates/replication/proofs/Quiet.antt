@@ -31,23 +31,24 @@ use Rattle.write.specs.LocalWrites.{local_outcome}
 use Rattle.write.specs.Planning.{security_outcome}
 use Rattle.write.specs.Terms.{Terms, terms_in}
 use Rattle.write.specs.declared.fault.WriteFault.{WriteFault}
-use Rattle.api.specs.Asking.{asker, body_of, method_of, plain}
-use Rattle.api.specs.Bulk.{Bulk, bulk_by, bulk_in, documents_in, elements, new_edits_in}
-use Rattle.api.specs.Paths.{decoded_text, document_id_in, id_if, id_text_in, joined_by_slash, local_id_in, part_at, parts_of, slash, text_if}
-use Rattle.api.specs.Refusals.{next, there_or, true_or}
+use Rattle.api.specs.Asking.{asker, json_body, method_named, plain}
+use Rattle.api.specs.Bulk.{Bulk, bulk_in, bulk_documents_in, elements_of_items, new_edits_in}
+use Rattle.api.specs.Paths.{decoded_text, document_id_in, id_in_path, id_text_in, joined_by_slash, local_id_in, part_at, parts_of, slash, text_if}
+use Rattle.api.specs.Queries.{read_then}
+use Rattle.api.specs.Refusals.{and_then, there_or, true_or}
 use Rattle.api.specs.Routing.{page_of}
 use Rattle.api.specs.declared.method.RequestMethod.TheVariants.{Get, Post, Put}
 use Rattle.api.specs.declared.page.Page.{Page}
 use Rattle.api.specs.declared.page.Page.TheVariants.{Welcome, AllDatabases, Database as DatabasePage, Security, BulkDocuments, AllDocuments, Changes, Differences, Find, Index, View, Document, LocalDocument as LocalDocumentPage}
 use Rattle.api.specs.declared.refusal.Refusal.{Refusal}
 use Rattle.api.specs.declared.refusal.Refusal.TheVariants.{Body, Exists, Id, Method, Path}
-use Rattle.node.specs.Answer.{Change, Outcome, Task, administration, change_at, created, creation, database_name_of, entry, inside, judgement, kept, listed, outcome_in as outcome_at, page_outcome, removal, removed, settlement, task_of, task_outcome, told, welcome, with_change, with_effect_at, work_task, worked}
+use Rattle.node.specs.Answer.{Change, Outcome, Task, administration, change_at, created, creation, database_name_of, entry, inside, judgement, kept, listed, outcome_in_database as outcome_at, page_outcome, removal, removed, settlement, task_of, task_outcome, told, welcome, with_change, with_effect_at, work_task, worked}
 use Rattle.node.specs.Runs.{Steps}
 use Rattle.node.specs.Work.{Done, Effect, Work, appended, local_put, nothing, read_work, secured, value_done, with_effect}
 use Rattle.node.specs.Works.{bulk_written, change_list, database_read, difference_list, document_finds, document_list, document_read, document_written, documents_written, done, edit_asked, edit_in, index_asked_in, index_written, local_read, local_set, local_written, security_read, security_set, security_written, view_read}
 use Rattle.node.proofs.Tasks.{IsMade, judged_right, named as was_named, same, went}
-use Rattle.repl.specs.Calls.{Call, Revisions, compare_revisions, list_changes, open_revisions, path_of, push_documents, read_checkpoint, request_of, revisions_put, texts_value, write_checkpoint}
-use Rattle.repl.specs.Configuration.{Configuration, database_of}
+use Rattle.repl.specs.Calls.{Call, Revisions, compare_revisions, list_changes, open_revisions, page_path, push_documents, read_checkpoint, request_of, revisions_put, texts_value, write_checkpoint}
+use Rattle.repl.specs.Configuration.{PassConfiguration, database_of_side}
 use Rattle.repl.specs.Spelling.{segment}
 use Rattle.repl.specs.declared.side.Side.{Side}
 use Rattle.replication.specs.Finished.{found_or_new}
@@ -93,12 +94,12 @@ silent caller a (told value) o quiet e = subst (λ (x : Outcome). IsSilent x.cha
 silent caller a listed o quiet e = subst (λ (x : Outcome). IsSilent x.change) (same {A = Outcome} _ o e) tt
 silent caller a (created name asked) o quiet e =
     let made : Outcome = record { status = 201; value = done; change = creation name } in
-    let k = went (true_or Exists (is_none (get a name))) (λ _. next asked (λ _. Ok made)) o e in
+    let k = went (true_or Exists (is_none (get a name))) (λ _. and_then asked (λ _. Ok made)) o e in
     let l = went asked (λ _. Ok made) o k.then in
     subst (λ (x : Outcome). IsSilent x.change) (same {A = Outcome} _ o l.then) tt
 silent caller a (removed name asked) o quiet e = absurd quiet
 silent caller a (worked action name work) o quiet e =
-    let k = went (entry caller action (get a name)) (λ db. next (work db) (λ d. Ok (outcome_at name d))) o e in
+    let k = went (entry caller action (get a name)) (λ db. and_then (work db) (λ d. Ok (outcome_at name d))) o e in
     let l = went (work k.first) (λ d. Ok (outcome_at name d)) o k.then in
     subst (λ (x : Outcome). IsSilent x.change) (same {A = Outcome} _ o l.then) (silent_at name l.first.effect (quiet k.first l.first l.was))
 
@@ -171,13 +172,13 @@ change_keeps a m (inside name effect) quiet made =
 
 abbrev pub IsQuietCall : Message → Type 0
 IsQuietCall m =
-    (page : Page) (caller : auth.Identity) (task : Task) → page_of m.path ≡ Some page → task_of page (method_of m.method) caller m ≡ Ok task → IsQuiet task
+    (page : Page) (caller : auth.Identity) (task : Task) → page_of m.path ≡ Some page → task_of page (method_named m.method) caller m ≡ Ok task → IsQuiet task
 
 judged_silent : (c : auth.Configuration) (a : Contents) (m : Message) (o : Outcome) → IsQuietCall m → judgement c a m ≡ Ok o → IsSilent o.change
 judged_silent c a m o quiet e =
-    let k = went (asker c m) (λ caller. next (there_or Path (page_of m.path)) (λ page. page_outcome page (method_of m.method) caller a m)) o e in
-    let l = went (there_or Path (page_of m.path)) (λ page. page_outcome page (method_of m.method) k.first a m) o k.then in
-    let t = went (task_of l.first (method_of m.method) k.first m) (λ task. task_outcome k.first a task) o l.then in
+    let k = went (asker c m) (λ caller. and_then (there_or Path (page_of m.path)) (λ page. page_outcome page (method_named m.method) caller a m)) o e in
+    let l = went (there_or Path (page_of m.path)) (λ page. page_outcome page (method_named m.method) k.first a m) o k.then in
+    let t = went (task_of l.first (method_named m.method) k.first m) (λ task. task_outcome k.first a task) o l.then in
     silent k.first a t.first o (quiet l.first k.first t.first (was_named Path (page_of m.path) l.first l.was) t.was) t.then
 
 pub quiet_step : (c : auth.Configuration) (a : Contents) (m : Message) (r : Reply) (after : Contents) → IsQuietCall m → Steps c a m r after → WritesNowhere a after
@@ -208,7 +209,7 @@ quiet_read m read task e = quiet_work Read m (λ name. read_work (read name)) ta
 pub quiet_get : (page : Page) (caller : auth.Identity) (m : Message) (task : Task) → task_of page (Some Get) caller m ≡ Ok task → IsQuiet task
 quiet_get Welcome caller m task e = let k = went (plain m) (λ _. Ok (told welcome)) task e in subst IsQuiet (same {A = Task} _ task k.then) tt
 quiet_get AllDatabases caller m task e =
-    let k = went (administration caller) (λ _. next (plain m) (λ _. Ok listed)) task e in
+    let k = went (administration caller) (λ _. and_then (plain m) (λ _. Ok listed)) task e in
     let l = went (plain m) (λ _. Ok listed) task k.then in
     subst IsQuiet (same {A = Task} _ task l.then) tt
 quiet_get DatabasePage caller m task e = quiet_read m (λ name. database_read m name) task e
@@ -231,8 +232,8 @@ quiet_set (Err fault) d e = absurd cc
 
 pub quiet_security : (m : Message) → IsQuietWork (security_written m)
 quiet_security m db d e =
-    let k = went (plain m) (λ _. next (body_of m) (λ value. security_set (security_outcome value))) d e in
-    let l = went (body_of m) (λ value. security_set (security_outcome value)) d k.then in
+    let k = went (plain m) (λ _. and_then (json_body m) (λ value. security_set (security_outcome value))) d e in
+    let l = went (json_body m) (λ value. security_set (security_outcome value)) d k.then in
     quiet_set (security_outcome l.first) d l.then
 
 quiet_stored : (caller : auth.Identity) (id : List ℕ) (r : Result LocalDocument WriteFault) (d : Done) → local_set caller id r ≡ Ok d → WritesNothing d.effect
@@ -241,21 +242,21 @@ quiet_stored caller id (Err fault) d e = absurd cc
 
 pub quiet_local : (caller : auth.Identity) (m : Message) → IsQuietWork (local_written caller m)
 quiet_local caller m db d e =
-    let k = went (there_or Id (local_id_in m.path)) (λ id. next (plain m) (λ _. next (body_of m) (λ document. local_set caller id (local_outcome (local_at db id) id document)))) d e in
-    let l = went (plain m) (λ _. next (body_of m) (λ document. local_set caller k.first (local_outcome (local_at db k.first) k.first document))) d k.then in
-    let b = went (body_of m) (λ document. local_set caller k.first (local_outcome (local_at db k.first) k.first document)) d l.then in
+    let k = went (there_or Id (local_id_in m.path)) (λ id. and_then (plain m) (λ _. and_then (json_body m) (λ document. local_set caller id (local_outcome (local_at db id) id document)))) d e in
+    let l = went (plain m) (λ _. and_then (json_body m) (λ document. local_set caller k.first (local_outcome (local_at db k.first) k.first document))) d k.then in
+    let b = went (json_body m) (λ document. local_set caller k.first (local_outcome (local_at db k.first) k.first document)) d l.then in
     quiet_stored caller k.first (local_outcome (local_at db k.first) k.first b.first) d b.then
 
 unnamed_document : (caller : auth.Identity) (m : Message) (name : List ℕ) → document_id_in m.path ≡ None → IsQuietWork (document_written caller m name)
 unnamed_document caller m name none db d e =
-    let k = went (edit_asked m) (λ asked. next (body_of m) (λ document. edit_in caller 201 name db asked.0 asked.1 document)) d e in
+    let k = went (edit_asked m) (λ asked. and_then (json_body m) (λ document. edit_in caller 201 name db asked.0 asked.1 document)) d e in
     absurd (there_never Id (document_id_in m.path) _ k.first none k.was)
 
 quiet_put : (page : Page) (caller : auth.Identity) (m : Message) (task : Task) → document_id_in m.path ≡ None → task_of page (Some Put) caller m ≡ Ok task → IsQuiet task
 quiet_put Welcome caller m task none e = absurd (never Method task e)
 quiet_put AllDatabases caller m task none e = absurd (never Method task e)
 quiet_put DatabasePage caller m task none e =
-    let k = went (database_name_of m) (λ name. next (administration caller) (λ _. Ok (created name (plain m)))) task e in
+    let k = went (database_name_of m) (λ name. and_then (administration caller) (λ _. Ok (created name (plain m)))) task e in
     let l = went (administration caller) (λ _. Ok (created k.first (plain m))) task k.then in
     subst IsQuiet (same {A = Task} _ task l.then) tt
 quiet_put Security caller m task none e = quiet_work WriteSecurity m (λ name. security_written m) task (λ name. quiet_security m) e
@@ -276,7 +277,7 @@ unfolding percent_encoding_on_literals
 local_literal = refl
 
 -- behind `_local/` stands no id, or that of a local document
-never_document : (rest : List ℕ) → option_and_then (λ id. text_if (not (is_local_id id)) id) (id_if (codes "_local/" ++ rest)) ≡ None
+never_document : (rest : List ℕ) → option_and_then (λ id. text_if (not (is_local_id id)) id) (id_in_path (codes "_local/" ++ rest)) ≡ None
 never_document [] = refl
 never_document (b ∷ rest) = by (is_document_id (codes "_local/" ++ b ∷ rest))
   where
@@ -288,17 +289,17 @@ never_document (b ∷ rest) = by (is_document_id (codes "_local/" ++ b ∷ rest)
     by false = refl
 
 abbrev document_by : Option (List ℕ) → Option (List ℕ)
-document_by o = option_and_then (λ id. text_if (not (is_local_id id)) id) (option_and_then (λ text. id_if text) o)
+document_by o = option_and_then (λ id. text_if (not (is_local_id id)) id) (option_and_then (λ text. id_in_path text) o)
 
 no_document : (good : Bool) (second : Option (List ℕ)) → document_by (joined_by_slash (text_if good (codes "_local")) second) ≡ None
 no_document true None = refl
 no_document true (Some rest) = never_document rest
 no_document false second = refl
 
-checkpoint_path : (db id : List ℕ) → document_id_in (path_of db (codes "_local/" ++ segment id)) ≡ None
+checkpoint_path : (db id : List ℕ) → document_id_in (page_path db (codes "_local/" ++ segment id)) ≡ None
 checkpoint_path db id =
     let page = codes "_local/" ++ segment id in
-    let path = path_of db page in
+    let path = page_path db page in
     let one : parts_of (segment id) ≡ segment id ∷ [] = slice_split_none (λ b. b == slash) (segment id) (slashless id) in
     let parts : parts_of path ≡ [] ∷ segment db ∷ codes "_local" ∷ segment id ∷ [] = parts-path db page ∙ ap (λ (ps : List (List ℕ)). [] ∷ segment db ∷ codes "_local" ∷ ps) one in
     let text : id_text_in path ≡ joined_by_slash (text_if (is_utf8 (codes "_local")) (codes "_local")) (decoded_text (segment id)) =
@@ -353,7 +354,7 @@ no_index ms h =
     either_none _ _
     (ap (λ (o : Option (List ℕ)). option_and_then (λ design. index_with v design) o) (no_design (member_at (codes "ddoc") ms) (texts_at (codes "ddoc") ms h)))
 
-pub elements_back : (vs : List Value) → elements (items_of vs) ≡ vs
+pub elements_back : (vs : List Value) → elements_of_items (items_of vs) ≡ vs
 elements_back [] = refl
 elements_back (v ∷ vs) = ap (λ (xs : List Value). v ∷ xs) (elements_back vs)
 
@@ -365,32 +366,32 @@ no_writes terms new_edits histories (t ∷ ts) = no_writes terms new_edits histo
 none_written : (terms : Terms) (new_edits : Bool) (histories : Histories) (vs : List Value) (ts : List (List ℕ)) → vs ≡ map text ts → writes_in (outcomes terms new_edits histories vs) ≡ []
 none_written terms new_edits histories vs ts is = subst (λ (xs : List Value). writes_in (outcomes terms new_edits histories xs) ≡ []) (sym is) (no_writes terms new_edits histories ts)
 
-bulk_documents : (good : Bool) (new_edits : Option Bool) (documents : Option (List Value)) (bulk : Bulk) → cond good (bulk_by new_edits documents) None ≡ Some bulk → documents ≡ Some bulk.documents
+bulk_documents : (good : Bool) (new_edits : Option Bool) (documents : Option (List Value)) (bulk : Bulk) → cond good (read_then new_edits (λ n. read_then documents (λ ds. Some (record { new_edits = n; documents = ds })))) None ≡ Some bulk → documents ≡ Some bulk.documents
 bulk_documents false new_edits documents bulk e = absurd cc
 bulk_documents true None documents bulk e = absurd cc
 bulk_documents true (Some b) None bulk e = absurd cc
 bulk_documents true (Some b) (Some vs) bulk e = let made : Bulk = record { new_edits = b; documents = vs } in let k : made ≡ bulk = cc in ap (λ (x : Bulk). Some x.documents) k
 
-texts_listed : (o : Option Value) (vs : List Value) → IfTexts o → documents_in o ≡ Some vs → (ts : List (List ℕ)) × (vs ≡ map text ts)
+texts_listed : (o : Option Value) (vs : List Value) → IfTexts o → bulk_documents_in o ≡ Some vs → (ts : List (List ℕ)) × (vs ≡ map text ts)
 texts_listed None vs h e = absurd cc
 texts_listed (Some v) vs (ts, is) e =
-    (ts, (let k : Some (elements (items_of (map text ts))) ≡ Some vs = ap (λ (x : Value). documents_in (Some x)) (sym is) ∙ e in let l : elements (items_of (map text ts)) ≡ vs = cc in sym l) ∙ elements_back (map text ts))
+    (ts, (let k : Some (elements_of_items (items_of (map text ts))) ≡ Some vs = ap (λ (x : Value). bulk_documents_in (Some x)) (sym is) ∙ e in let l : elements_of_items (items_of (map text ts)) ≡ vs = cc in sym l) ∙ elements_back (map text ts))
 
 quiet_documents : (caller : auth.Identity) (m : Message) (name : List ℕ) (ms : Members) → HasBody m ms → AreTexts ms → IsQuietWork (documents_written caller m name)
 quiet_documents caller m name ms body texts db d e =
-    let k = went (plain m) (λ _. next (body_of m) (λ value. next (there_or Body (bulk_in value)) (λ bulk. bulk_written caller bulk name db))) d e in
-    let l = went (body_of m) (λ value. next (there_or Body (bulk_in value)) (λ bulk. bulk_written caller bulk name db)) d k.then in
+    let k = went (plain m) (λ _. and_then (json_body m) (λ value. and_then (there_or Body (bulk_in value)) (λ bulk. bulk_written caller bulk name db))) d e in
+    let l = went (json_body m) (λ value. and_then (there_or Body (bulk_in value)) (λ bulk. bulk_written caller bulk name db)) d k.then in
     let b = went (there_or Body (bulk_in l.first)) (λ bulk. bulk_written caller bulk name db) d l.then in
     let asked : bulk_in (object ms) ≡ Some b.first = ap bulk_in (sym (body l.first l.was)) ∙ was_named Body (bulk_in l.first) b.first b.was in
-    let documents = bulk_documents _ (new_edits_in (member_at (codes "new_edits") ms)) (documents_in (member_at (codes "docs") ms)) b.first asked in
+    let documents = bulk_documents _ (new_edits_in (member_at (codes "new_edits") ms)) (bulk_documents_in (member_at (codes "docs") ms)) b.first asked in
     let listed = texts_listed (member_at (codes "docs") ms) b.first.documents (texts_at (codes "docs") ms texts) documents in
     let none = none_written (terms_in caller name db) b.first.new_edits (history_at db) b.first.documents listed.0 listed.1 in
     subst (λ (x : Done). WritesNothing x.effect) (same {A = Done} _ d b.then) none
 
 no_declaration : (caller : auth.Identity) (m : Message) (name : List ℕ) (ms : Members) → HasBody m ms → index_in (object ms) ≡ None → IsQuietWork (index_written caller m name)
 no_declaration caller m name ms body none db d e =
-    let k = went (plain m) (λ _. next (body_of m) (λ value. next (there_or Body (index_in value)) (λ asked. index_asked_in caller name db asked))) d e in
-    let l = went (body_of m) (λ value. next (there_or Body (index_in value)) (λ asked. index_asked_in caller name db asked)) d k.then in
+    let k = went (plain m) (λ _. and_then (json_body m) (λ value. and_then (there_or Body (index_in value)) (λ asked. index_asked_in caller name db asked))) d e in
+    let l = went (json_body m) (λ value. and_then (there_or Body (index_in value)) (λ asked. index_asked_in caller name db asked)) d k.then in
     absurd (there_never Body (index_in l.first) (λ asked. index_asked_in caller name db asked) d (ap index_in (body l.first l.was) ∙ none) l.then)
 
 quiet_post : (page : Page) (caller : auth.Identity) (m : Message) (ms : Members) (task : Task) → HasBody m ms → AreTexts ms → task_of page (Some Post) caller m ≡ Ok task → IsQuiet task
@@ -410,10 +411,10 @@ quiet_post LocalDocumentPage caller m ms task body texts e = absurd (never Metho
 
 -- ---- the calls
 
-quiet_call : (k : Configuration) (side : Side) (call : Call) → is_push call ≡ false → AsksLawfully call → IsQuietCall (request_of k side call)
+quiet_call : (k : PassConfiguration) (side : Side) (call : Call) → is_push call ≡ false → AsksLawfully call → IsQuietCall (request_of k side call)
 quiet_call k side (read_checkpoint id) other asks page caller task at e = quiet_get page caller (request_of k side (read_checkpoint id)) task e
 quiet_call k side (write_checkpoint id value) other asks page caller task at e =
-    quiet_put page caller (request_of k side (write_checkpoint id value)) task (checkpoint_path (database_of k side) id) e
+    quiet_put page caller (request_of k side (write_checkpoint id value)) task (checkpoint_path (database_of_side k side) id) e
 quiet_call k side (list_changes since most) other asks page caller task at e = quiet_get page caller (request_of k side (list_changes since most)) task e
 quiet_call k side (compare_revisions rs) other asks page caller task at e =
     let m = request_of k side (compare_revisions rs) in

@@ -22,8 +22,8 @@ use Rattle.tree.specs.declared.entry.Held.{Held}
 use Rattle.store.specs.Contents.{Contents, local_at, new_database, with_local, with_security}
 use Rattle.store.specs.Database.{Database, Document, DocumentWrite, history_at, history_in, with_all, with_one}
 use Rattle.store.specs.declared.local_document.LocalDocument.{LocalDocument}
-use Rattle.write.specs.Admission.{admission, design_refusal, edit_outcome, unless_denied}
-use Rattle.write.specs.Bulk.{DocumentOutcome, Histories, after, document_outcome, outcome_by_id, outcome_in, outcomes, put_before, writes_in}
+use Rattle.write.specs.Admission.{admission, design_refusal, edit_outcome, given, unless_denied}
+use Rattle.write.specs.Bulk.{DocumentOutcome, Histories, after, document_outcome, outcome_in, outcomes, put_before, writes_in}
 use Rattle.write.specs.Document.{id_in}
 use Rattle.write.specs.IndexWrites.{index_admission, index_document}
 use Rattle.write.specs.LocalWrites.{local_outcome}
@@ -34,10 +34,10 @@ use Rattle.write.specs.declared.fault.WriteFault.TheVariants as fault
 use Rattle.write.proofs.Acceptances.{after_is, db_after}
 use Rattle.write.proofs.Names.{as_outcome-Some, index_by_edit}
 use Rattle.write.proofs.Outcomes.{edit_accepted, replicated_accepted}
-use Rattle.api.specs.Asking.{asker, body_of, method_of, plain}
+use Rattle.api.specs.Asking.{asker, json_body, method_named, plain}
 use Rattle.api.specs.Bulk.{bulk_in}
 use Rattle.api.specs.Paths.{local_id_in}
-use Rattle.api.specs.Refusals.{next, there_or, true_or}
+use Rattle.api.specs.Refusals.{and_then, there_or, true_or}
 use Rattle.api.specs.Routing.{page_of}
 use Rattle.api.specs.declared.method.RequestMethod.{RequestMethod}
 use Rattle.api.specs.declared.method.RequestMethod.TheVariants.{Delete, Get, Post, Put}
@@ -45,17 +45,17 @@ use Rattle.api.specs.declared.page.Page.{Page}
 use Rattle.api.specs.declared.page.Page.TheVariants.{Welcome, AllDatabases, Database as DatabasePage, Security, BulkDocuments, AllDocuments, Changes, Differences, Find, Index, View, Document as DocumentPage, LocalDocument as LocalDocumentPage}
 use Rattle.api.specs.declared.refusal.Refusal.{Refusal}
 use Rattle.api.specs.declared.refusal.Refusal.TheVariants.{Body, Exists, Id, NoDatabase, Path}
-use Rattle.node.specs.Answer.{Outcome, Task, admin_task, administration, change_at, created, creation, database_name_of, entry, judgement, listed, outcome_in as outcome_at, page_outcome, removal, removed, settlement, task_of, task_outcome, told, welcome, with_change, with_effect_at, work_task, worked}
+use Rattle.node.specs.Answer.{Outcome, Task, admin_task, administration, change_at, created, creation, database_name_of, entry, judgement, listed, outcome_in_database as outcome_at, page_outcome, removal, removed, settlement, task_of, task_outcome, told, welcome, with_change, with_effect_at, work_task, worked}
 use Rattle.node.specs.Runs.{Steps}
 use Rattle.node.specs.Step.{Serving}
-use Rattle.world.specs.Service.{IsHandled}
+use Rattle.world.specs.Service.{IsHandled, alike}
 use Rattle.world.proofs.Along.{along}
 use Rattle.replication.proofs.Places.{set_elsewhere, set_here}
 use Rattle.node.specs.Work.{Done, Effect, Work, appended, local_put, nothing, read_work, secured, value_done, with_effect}
 use Rattle.node.specs.Works.{bulk_written, change_list, database_read, deletion, deletion_outcome, difference_list, document_deleted, document_finds, document_list, document_read, document_written, documents_written, done, edit_asked, edit_done, edit_in, index_asked_in, index_done, index_written, local_read, local_set, local_written, security_read, security_set, security_written, view_read}
 use Rattle.node.proofs.Tasks.{same, there, went}
 use Rattle.replication.specs.Courses.{GoesBy, Stage, arranges, runs}
-use Rattle.replication.specs.Runs.{RunOf}
+use Rattle.replication.specs.Runs.{Run}
 use Rattle.world.specs.Network.{Network}
 use Rattle.replication.specs.Replicable.{AreReplicable, HaveWritable, CoursesKeepWritable, RunsKeepReplicable, RunsKeepWritable, StepsKeepReplicable, StepsKeepWritable}
 use Rattle.replication.specs.Sound.{AreWritable, IsReplicable}
@@ -132,8 +132,8 @@ module _ (P : Database → Type 0) (writable : (db : Database) → P db → AreW
 
     clean_document : (caller : auth.Identity) (m : Message) (name : List ℕ) → IsCleanWork (document_written caller m name)
     clean_document caller m name db d clean e =
-        let k = went (edit_asked m) (λ asked. next (body_of m) (λ document. edit_in caller 201 name db asked.0 asked.1 document)) d e in
-        let l = went (body_of m) (λ document. edit_in caller 201 name db k.first.0 k.first.1 document) d k.then in
+        let k = went (edit_asked m) (λ asked. and_then (json_body m) (λ document. edit_in caller 201 name db asked.0 asked.1 document)) d e in
+        let l = went (json_body m) (λ document. edit_in caller 201 name db k.first.0 k.first.1 document) d k.then in
         clean_edited caller 201 k.first.0 db (admission (terms_in caller name db) db k.first.0 k.first.1 l.first) d
         (λ w. admitted (terms_in caller name db) db k.first.0 k.first.1 l.first w clean) l.then
 
@@ -159,7 +159,7 @@ module _ (P : Database → Type 0) (writable : (db : Database) → P db → AreW
     judged_clean terms false db id document w clean e = replicated_clean terms db id document w (replicated_accepted terms id (history_at db id) document (Some w) e)
 
     by_id_clean : (terms : Terms) (new_edits : Bool) (db : Database) (document : Value) (id : Option (List ℕ)) (w : DocumentWrite) → P db
-        → outcome_by_id terms new_edits (history_at db) document id ≡ Ok (Some w) → IsClean db w
+        → given fault.BadDocument id (λ k. document_outcome terms new_edits k (history_at db k) document) ≡ Ok (Some w) → IsClean db w
     by_id_clean terms new_edits db document None w clean e = absurd cc
     by_id_clean terms new_edits db document (Some id) w clean e = judged_clean terms new_edits db id document w clean e
 
@@ -178,8 +178,8 @@ module _ (P : Database → Type 0) (writable : (db : Database) → P db → AreW
 
     clean_documents : (caller : auth.Identity) (m : Message) (name : List ℕ) → IsCleanWork (documents_written caller m name)
     clean_documents caller m name db d clean e =
-        let k = went (plain m) (λ _. next (body_of m) (λ value. next (there_or Body (bulk_in value)) (λ bulk. bulk_written caller bulk name db))) d e in
-        let l = went (body_of m) (λ value. next (there_or Body (bulk_in value)) (λ bulk. bulk_written caller bulk name db)) d k.then in
+        let k = went (plain m) (λ _. and_then (json_body m) (λ value. and_then (there_or Body (bulk_in value)) (λ bulk. bulk_written caller bulk name db))) d e in
+        let l = went (json_body m) (λ value. and_then (there_or Body (bulk_in value)) (λ bulk. bulk_written caller bulk name db)) d k.then in
         let b = went (there_or Body (bulk_in l.first)) (λ bulk. bulk_written caller bulk name db) d l.then in
         subst (λ (x : Done). IsCleanEffect db x.effect) (same {A = Done} _ d b.then) (all_clean (terms_in caller name db) b.first.new_edits db b.first.documents clean)
 
@@ -198,8 +198,8 @@ module _ (P : Database → Type 0) (writable : (db : Database) → P db → AreW
     clean_index : (caller : auth.Identity) (m : Message) (name : List ℕ) → IsCleanWork (index_written caller m name)
     clean_index caller m name db d clean e =
         let terms = terms_in caller name db in
-        let k = went (plain m) (λ _. next (body_of m) (λ value. next (there_or Body (index_in value)) (λ asked. index_asked_in caller name db asked))) d e in
-        let l = went (body_of m) (λ value. next (there_or Body (index_in value)) (λ asked. index_asked_in caller name db asked)) d k.then in
+        let k = went (plain m) (λ _. and_then (json_body m) (λ value. and_then (there_or Body (index_in value)) (λ asked. index_asked_in caller name db asked))) d e in
+        let l = went (json_body m) (λ value. and_then (there_or Body (index_in value)) (λ asked. index_asked_in caller name db asked)) d k.then in
         let b = went (there_or Body (index_in l.first)) (λ asked. index_asked_in caller name db asked) d l.then in
         let id = b.first.design in
         let h = history_at db id in
@@ -219,8 +219,8 @@ module _ (P : Database → Type 0) (writable : (db : Database) → P db → AreW
 
     clean_security : (m : Message) → IsCleanWork (security_written m)
     clean_security m db d clean e =
-        let k = went (plain m) (λ _. next (body_of m) (λ value. security_set (security_outcome value))) d e in
-        let l = went (body_of m) (λ value. security_set (security_outcome value)) d k.then in
+        let k = went (plain m) (λ _. and_then (json_body m) (λ value. security_set (security_outcome value))) d e in
+        let l = went (json_body m) (λ value. security_set (security_outcome value)) d k.then in
         clean_set db (security_outcome l.first) d l.then
 
     clean_stored : (caller : auth.Identity) (id : List ℕ) (db : Database) (r : Result LocalDocument WriteFault) (d : Done) → local_set caller id r ≡ Ok d → IsCleanEffect db d.effect
@@ -229,9 +229,9 @@ module _ (P : Database → Type 0) (writable : (db : Database) → P db → AreW
 
     clean_local : (caller : auth.Identity) (m : Message) → IsCleanWork (local_written caller m)
     clean_local caller m db d clean e =
-        let k = went (there_or Id (local_id_in m.path)) (λ id. next (plain m) (λ _. next (body_of m) (λ document. local_set caller id (local_outcome (local_at db id) id document)))) d e in
-        let l = went (plain m) (λ _. next (body_of m) (λ document. local_set caller k.first (local_outcome (local_at db k.first) k.first document))) d k.then in
-        let b = went (body_of m) (λ document. local_set caller k.first (local_outcome (local_at db k.first) k.first document)) d l.then in
+        let k = went (there_or Id (local_id_in m.path)) (λ id. and_then (plain m) (λ _. and_then (json_body m) (λ document. local_set caller id (local_outcome (local_at db id) id document)))) d e in
+        let l = went (plain m) (λ _. and_then (json_body m) (λ document. local_set caller k.first (local_outcome (local_at db k.first) k.first document))) d k.then in
+        let b = went (json_body m) (λ document. local_set caller k.first (local_outcome (local_at db k.first) k.first document)) d l.then in
         clean_stored caller k.first db (local_outcome (local_at db k.first) k.first b.first) d b.then
 
     -- ---- what is asked
@@ -246,22 +246,22 @@ module _ (P : Database → Type 0) (writable : (db : Database) → P db → AreW
 
     clean_created : (caller : auth.Identity) (m : Message) (asked : Result (Unit {0}) Refusal) (task : Task) → admin_task caller m (λ name. created name asked) ≡ Ok task → IsCleanTask task
     clean_created caller m asked task e =
-        let k = went (database_name_of m) (λ name. next (administration caller) (λ _. Ok (created name asked))) task e in
+        let k = went (database_name_of m) (λ name. and_then (administration caller) (λ _. Ok (created name asked))) task e in
         let l = went (administration caller) (λ _. Ok (created k.first asked)) task k.then in
         subst IsCleanTask (same {A = Task} _ task l.then) tt
 
     clean_removed : (caller : auth.Identity) (m : Message) (asked : Result (Unit {0}) Refusal) (task : Task) → admin_task caller m (λ name. removed name asked) ≡ Ok task → IsCleanTask task
     clean_removed caller m asked task e =
-        let k = went (database_name_of m) (λ name. next (administration caller) (λ _. Ok (removed name asked))) task e in
+        let k = went (database_name_of m) (λ name. and_then (administration caller) (λ _. Ok (removed name asked))) task e in
         let l = went (administration caller) (λ _. Ok (removed k.first asked)) task k.then in
         subst IsCleanTask (same {A = Task} _ task l.then) tt
 
-    clean_welcome : (m : Message) (task : Task) → next (plain m) (λ _. Ok (told welcome)) ≡ Ok task → IsCleanTask task
+    clean_welcome : (m : Message) (task : Task) → and_then (plain m) (λ _. Ok (told welcome)) ≡ Ok task → IsCleanTask task
     clean_welcome m task e = let k = went (plain m) (λ _. Ok (told welcome)) task e in subst IsCleanTask (same {A = Task} _ task k.then) tt
 
-    clean_list : (caller : auth.Identity) (m : Message) (task : Task) → next (administration caller) (λ _. next (plain m) (λ _. Ok listed)) ≡ Ok task → IsCleanTask task
+    clean_list : (caller : auth.Identity) (m : Message) (task : Task) → and_then (administration caller) (λ _. and_then (plain m) (λ _. Ok listed)) ≡ Ok task → IsCleanTask task
     clean_list caller m task e =
-        let k = went (administration caller) (λ _. next (plain m) (λ _. Ok listed)) task e in
+        let k = went (administration caller) (λ _. and_then (plain m) (λ _. Ok listed)) task e in
         let l = went (plain m) (λ _. Ok listed) task k.then in
         subst IsCleanTask (same {A = Task} _ task l.then) tt
 
@@ -321,16 +321,16 @@ module _ (P : Database → Type 0) (writable : (db : Database) → P db → AreW
     task_stays caller a listed o h k e = subst (λ (x : Outcome). AllAre (with_change x.change a)) (same {A = Outcome} _ o e) h
     task_stays caller a (created name asked) o h k e =
         let made : Outcome = record { status = 201; value = done; change = creation name } in
-        let i = went (true_or Exists (is_none (get a name))) (λ _. next asked (λ _. Ok made)) o e in
+        let i = went (true_or Exists (is_none (get a name))) (λ _. and_then asked (λ _. Ok made)) o e in
         let l = went asked (λ _. Ok made) o i.then in
         subst (λ (x : Outcome). AllAre (with_change x.change a)) (same {A = Outcome} _ o l.then) (put_stays a name new_database h new)
     task_stays caller a (removed name asked) o h k e =
         let made : Outcome = record { status = 200; value = done; change = removal name } in
-        let i = went (there_or NoDatabase (get a name)) (λ _. next asked (λ _. Ok made)) o e in
+        let i = went (there_or NoDatabase (get a name)) (λ _. and_then asked (λ _. Ok made)) o e in
         let l = went asked (λ _. Ok made) o i.then in
         subst (λ (x : Outcome). AllAre (with_change x.change a)) (same {A = Outcome} _ o l.then) (removed_stays a name h)
     task_stays caller a (worked action name work) o h k e =
-        let i = went (entry caller action (get a name)) (λ db. next (work db) (λ d. Ok (outcome_at name d))) o e in
+        let i = went (entry caller action (get a name)) (λ db. and_then (work db) (λ d. Ok (outcome_at name d))) o e in
         let l = went (work i.first) (λ d. Ok (outcome_at name d)) o i.then in
         let at = there caller action (get a name) i.first i.was in
         subst (λ (x : Outcome). AllAre (with_change x.change a)) (same {A = Outcome} _ o l.then)
@@ -338,10 +338,10 @@ module _ (P : Database → Type 0) (writable : (db : Database) → P db → AreW
 
     judged_stays : (c : auth.Configuration) (a : Contents) (m : Message) (o : Outcome) → AllAre a → judgement c a m ≡ Ok o → AllAre (with_change o.change a)
     judged_stays c a m o h e =
-        let k = went (asker c m) (λ caller. next (there_or Path (page_of m.path)) (λ page. page_outcome page (method_of m.method) caller a m)) o e in
-        let l = went (there_or Path (page_of m.path)) (λ page. page_outcome page (method_of m.method) k.first a m) o k.then in
-        let t = went (task_of l.first (method_of m.method) k.first m) (λ task. task_outcome k.first a task) o l.then in
-        task_stays k.first a t.first o h (clean l.first (method_of m.method) k.first m t.first t.was) t.then
+        let k = went (asker c m) (λ caller. and_then (there_or Path (page_of m.path)) (λ page. page_outcome page (method_named m.method) caller a m)) o e in
+        let l = went (there_or Path (page_of m.path)) (λ page. page_outcome page (method_named m.method) k.first a m) o k.then in
+        let t = went (task_of l.first (method_named m.method) k.first m) (λ task. task_outcome k.first a task) o l.then in
+        task_stays k.first a t.first o h (clean l.first (method_named m.method) k.first m t.first t.was) t.then
 
     step_stays : (c : auth.Configuration) (a : Contents) (m : Message) (r : Reply) (after : Contents) → Steps c a m r after → AllAre a → AllAre after
     step_stays c a m r after (inl did) h = subst AllAre (sym did.1) (by (judgement c a m) refl)
@@ -391,9 +391,9 @@ module _ (Q : Contents → Type 0) (steps : (c : auth.Configuration) (a : Conten
           subst (λ (n : Serving Contents). Q n.store) is (steps h.node.configuration h.node.store m r h.after h.handled (all place h.node h.there))
       by (inr e) = all q node (sym (set_elsewhere old place q next e) ∙ ap (λ (xs : List (Serving Contents)). slice_get xs q) (sym h.left) ∙ at)
 
-  run_stays : (old new : Network Contents) → RunOf Steps old new → AtAll old.nodes → AtAll new.nodes
+  run_stays : (old new : Network Contents) → Run (alike Steps) old new → AtAll old.nodes → AtAll new.nodes
   run_stays old new run =
-      along (λ who. IsHandled Steps) (λ a b. AtAll a → AtAll b) (λ a h. h) (λ a b c f g h. g (f h)) (λ who a place m r b h. handled_stays a b place m r h)
+      along (alike Steps) (λ a b. AtAll a → AtAll b) (λ a h. h) (λ a b c f g h. g (f h)) (λ who a place m r b h. handled_stays a b place m r h)
       run.happenings old new run.seen run.played
 
   stages_stay : (ss : List Stage) (old new : Network Contents) → GoesBy Steps ss old new → AtAll old.nodes → AtAll new.nodes

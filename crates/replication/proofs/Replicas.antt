@@ -8,14 +8,14 @@ use Rattle.std.specs.FinMap.{empty, get, get-empty}
 use Rattle.std.proofs.lemmas.Slice.Eq.{bytes_eq-Decides}
 use Rattle.tree.specs.History.{HistoryContent, IsRooted, chain, content_of, held_of, is_known, with_write}
 use Rattle.tree.specs.Revision.{Revision, revision_cmp}
-use Rattle.tree.specs.Write.{IsLawful as AreWritten, Write}
+use Rattle.tree.specs.Write.{AreLawfulWrites as AreWritten, Write}
 use Rattle.tree.specs.declared.entry.Entry.{Entry}
 use Rattle.tree.specs.declared.entry.Held.{Held}
 use Rattle.tree.proofs.Contents.{entry_kept}
 use Rattle.tree.proofs.LawfulContents.{rooted}
 use Rattle.store.specs.Contents.{AreAcceptable, IsAcceptable}
-use Rattle.store.specs.Database.{Database, Document, DocumentWrite, IsKnownAt, TextMap, history_at, history_in, is_of, with_all, with_one}
-use Rattle.store.specs.Lawful.{IsBody, IsLawful}
+use Rattle.store.specs.Database.{Database, Document, DocumentWrite, IsKnownAt, TextMap, history_at, history_in, is_write_of, with_all, with_one}
+use Rattle.store.specs.Lawful.{IsBody, IsLawfulDatabase}
 use Rattle.store.specs.declared.local_document.LocalDocument.{LocalDocument}
 use Rattle.store.proofs.Contents.{history_at-with_one}
 use Rattle.store.proofs.Lawfuls.{held_body, lawful_by_one, writes_behind}
@@ -31,7 +31,7 @@ use Rattle.replication.proofs.Writings.{IsCopied, Keeps, agrees_on, held_from, k
 abbrev pub bare : Database → Database
 bare db = record db { locals = empty }
 
-no_locals : (db : Database) → IsSound db → IsLawful (bare db)
+no_locals : (db : Database) → IsSound db → IsLawfulDatabase (bare db)
 no_locals db s = record {
   documents = s.documents;
   sequences = record { positive = s.sequences.positive; within = s.sequences.within; distinct = s.sequences.distinct };
@@ -56,9 +56,9 @@ body_at db s id r d e = by (get db.documents id) refl e
 -- ---- the histories after a write
 
 pub after_write : (P : HistoryContent → Type 0) (db : Database) (w : DocumentWrite) (id : List ℕ) → P (history_at db id) → (w.id ≡ id → P (with_write (history_at db id) w.write)) → P (history_at (with_one db w) id)
-after_write P db w id old new = subst P (sym (history_at-with_one db w id)) (by (is_of id w) refl)
+after_write P db w id old new = subst P (sym (history_at-with_one db w id)) (by (is_write_of id w) refl)
   where
-    by : (b : Bool) → is_of id w ≡ b → P (cond b (with_write (history_at db id) w.write) (history_at db id))
+    by : (b : Bool) → is_write_of id w ≡ b → P (cond b (with_write (history_at db id) w.write) (history_at db id))
     by true is = new ((bytes_eq-Decides w.id id).0 is)
     by false is = old
 
@@ -86,7 +86,7 @@ one_held source target w sound c id r d =
 
 one_sound : (source target : Database) (w : DocumentWrite) → IsSound source → IsSound target → ComesFrom source w → IsAcceptable target w → IsSound (with_one target w)
 one_sound source target w from s c ok =
-    let lawful : IsLawful (with_one (bare target) w) = lawful_by_one (bare target) w (no_locals target s) (record { placed = ok.placed; body = ok.body; shallow = ok.shallow }) in
+    let lawful : IsLawfulDatabase (with_one (bare target) w) = lawful_by_one (bare target) w (no_locals target s) (record { placed = ok.placed; body = ok.body; shallow = ok.shallow }) in
     record {
       documents = lawful.documents;
       sequences = record { positive = lawful.sequences.positive; within = lawful.sequences.within; distinct = lawful.sequences.distinct };

@@ -3,17 +3,17 @@ use Rattle.std.proofs.Common.{◌≡◌, ◌==◌, ◌&&◌, ℕ, zero, suc, Boo
 use Rattle.couch_json.specs.Parts.{has_only, is_object, text_in}
 use Rattle.couch_json.specs.Value.{Value, Items, Members, array, member_at, member_of, null, object, put, text, truth, whole}
 use Rattle.couch_json.specs.View.{items_of}
-use Rattle.tree.specs.History.{HistoryContent, IsRooted, chain, held_of, is_known, line, onward, parent_of}
+use Rattle.tree.specs.History.{HistoryContent, IsRooted, chain, held_of, is_known, path_from, onward, parent_of}
 use Rattle.tree.specs.Revision.{Revision, is_revision, text_of}
-use Rattle.tree.specs.ShownDocument.{members_in, shown_members, with_mark}
-use Rattle.tree.specs.Write.{counts_down, held_by}
+use Rattle.tree.specs.ShownDocument.{body_members, shown_members, with_mark}
+use Rattle.tree.specs.Write.{counts_down, held_of_write}
 use Rattle.tree.specs.declared.entry.Held.{Held}
 use Rattle.tree.proofs.Kept.{line_on}
 use Rattle.tree.proofs.RevisionText.{parts}
 use Rattle.store.specs.Database.{Database, DocumentWrite, history_at}
 use Rattle.read.specs.Path.{revisions_of, with_path, with_revisions}
 use Rattle.read.specs.Shown.{shown_document}
-use Rattle.write.specs.Document.{Ancestry, ancestry_by, ancestry_if_newest, ancestry_in, body_for, body_if, body_in, count, fits_id, id_if, ids_in, is_body_for, is_bulk_id, is_newest, mark_in, member_text, onto, path_of, revision_in, revisions_if, revisions_in, sent_in, sent_with, start_in, without_special, words_in}
+use Rattle.write.specs.Document.{Ancestry, ancestry_by, ancestry_if_newest, ancestry_in, body_for, body_if, body_in, item_count, fits_id, id_in_bulk, ids_in, is_body_for, is_bulk_id, is_newest, mark_in, member_text, onto, path_of_hashes, given_revision, revisions_if, ancestry_given, sent_in, sent_with, start_in, without_special, words_in}
 use Rattle.passes.proofs.MemberLemmas.{put_at_other, put_at_same}
 use Rattle.replication.specs.Appended.{ComesFrom, IsSaidBy, IsShownBy}
 use Rattle.replication.specs.Sound.{IsSound, is_plain}
@@ -27,14 +27,14 @@ same_inside x y e = cc
 -- ---- a path as hashes, read back
 
 -- the path of a known revision counts down to 1
-line_counts : (k : HistoryContent) → IsRooted k → (n : ℕ) (r : Revision) → r.number ≡ n → is_known k r ≡ true → (length (line k n r) ≡ n) × (counts_down (line k n r) ≡ true)
+line_counts : (k : HistoryContent) → IsRooted k → (n : ℕ) (r : Revision) → r.number ≡ n → is_known k r ≡ true → (length (path_from k n r) ≡ n) × (counts_down (path_from k n r) ≡ true)
 line_counts k root zero r is known = absurd (omega (arith, is, positive k root r known))
 line_counts k root (suc n) r is known =
     subst (λ (path : List Revision). (length path ≡ suc n) × (counts_down path ≡ true)) (sym (line_on k n r known))
     (by (λ p near there. line_counts k root n p near there) (parent_of k r) refl)
   where
-    by : ((p : Revision) → p.number ≡ n → is_known k p ≡ true → (length (line k n p) ≡ n) × (counts_down (line k n p) ≡ true))
-        → (o : Option Revision) → parent_of k r ≡ o → (length (r ∷ onward (λ p. line k n p) o) ≡ suc n) × (counts_down (r ∷ onward (λ p. line k n p) o) ≡ true)
+    by : ((p : Revision) → p.number ≡ n → is_known k p ≡ true → (length (path_from k n p) ≡ n) × (counts_down (path_from k n p) ≡ true))
+        → (o : Option Revision) → parent_of k r ≡ o → (length (r ∷ onward (λ p. path_from k n p) o) ≡ suc n) × (counts_down (r ∷ onward (λ p. path_from k n p) o) ≡ true)
     by rest None up =
         let one = root.begins r known up in
         (omega (arith, is, one), ap (λ (b : Bool). b && true) (eq-eqb r.number 1 one))
@@ -45,24 +45,24 @@ line_counts k root (suc n) r is known =
 hashes : List Revision → Items
 hashes path = items_of (map (λ s. text s.hash) path)
 
-hashes_counted : (path : List Revision) → count (items_of (map (λ s. text s.hash) path)) ≡ length path
+hashes_counted : (path : List Revision) → item_count (items_of (map (λ s. text s.hash) path)) ≡ length path
 hashes_counted [] = refl
 hashes_counted (s ∷ rest) = ap suc (hashes_counted rest)
 
 -- what is read back of the hashes of a path that counts down, is that path
-path_back : (path found : List Revision) → counts_down path ≡ true → path_of (items_of (map (λ s. text s.hash) path)) ≡ Some found → found ≡ path
+path_back : (path found : List Revision) → counts_down path ≡ true → path_of_hashes (items_of (map (λ s. text s.hash) path)) ≡ Some found → found ≡ path
 path_back [] found counts e = sym (same_inside [] found e)
 path_back (s ∷ rest) found counts e =
     let both = parts (s.number == suc (length rest)) (counts_down rest) counts in
-    by (is_revision made) (path_of tail) (λ p k. path_back rest p both.1 k) refl (ap suc (hashes_counted rest) ∙ sym (eqb-true s.number (suc (length rest)) both.0)) e
+    by (is_revision made) (path_of_hashes tail) (λ p k. path_back rest p both.1 k) refl (ap suc (hashes_counted rest) ∙ sym (eqb-true s.number (suc (length rest)) both.0)) e
   where
     tail : Items
     tail = items_of (map (λ (x : Revision). text x.hash) rest)
 
     made : Revision
-    made = record { number = suc (count tail); hash = s.hash }
+    made = record { number = suc (item_count tail); hash = s.hash }
 
-    by : (b : Bool) (o : Option (List Revision)) → ((p : List Revision) → path_of tail ≡ Some p → p ≡ rest) → path_of tail ≡ o → suc (count tail) ≡ s.number
+    by : (b : Bool) (o : Option (List Revision)) → ((p : List Revision) → path_of_hashes tail ≡ Some p → p ≡ rest) → path_of_hashes tail ≡ o → suc (item_count tail) ≡ s.number
         → onto (cond b (Some made) None) o ≡ Some found → found ≡ s ∷ rest
     by true None below is number k = absurd cc
     by true (Some p) below is number k =
@@ -98,7 +98,7 @@ abbrev shown_all : List ℕ → Revision → List Revision → Held → Members
 shown_all id r path held = put (codes "_revisions") (revisions_of r path) (shown_members id r held)
 
 abbrev named_members : List ℕ → Revision → Held → Members
-named_members id r held = put (codes "_rev") (text (text_of r)) (put (codes "_id") (text id) (members_in held.body))
+named_members id r held = put (codes "_rev") (text (text_of r)) (put (codes "_id") (text id) (body_members held.body))
 
 at_marked : (b : Bool) (name : List ℕ) (ms : Members) → bytes_eq name (codes "_deleted") ≡ false → member_at name (with_mark b ms) ≡ member_at name ms
 at_marked true name ms h = put_at_other name (codes "_deleted") _ ms h
@@ -108,8 +108,8 @@ id_shown : (id : List ℕ) (r : Revision) (path : List Revision) (held : Held) �
 id_shown id r path held =
     put_at_other (codes "_id") (codes "_revisions") (revisions_of r path) (shown_members id r held) refl
     ∙ at_marked held.deleted (codes "_id") (named_members id r held) refl
-    ∙ put_at_other (codes "_id") (codes "_rev") (text (text_of r)) (put (codes "_id") (text id) (members_in held.body)) refl
-    ∙ put_at_same (codes "_id") (text id) (members_in held.body)
+    ∙ put_at_other (codes "_id") (codes "_rev") (text (text_of r)) (put (codes "_id") (text id) (body_members held.body)) refl
+    ∙ put_at_same (codes "_id") (text id) (body_members held.body)
 
 mark_shown : (id : List ℕ) (r : Revision) (path : List Revision) (held : Held) → is_plain held.body ≡ true → mark_in (member_at (codes "_deleted") (shown_all id r path held)) ≡ Some held.deleted
 mark_shown id r path held plain =
@@ -119,23 +119,23 @@ mark_shown id r path held plain =
     by true = ap mark_in (put_at_same (codes "_deleted") (truth true) (named_members id r held))
     by false =
         ap mark_in
-        (put_at_other (codes "_deleted") (codes "_rev") (text (text_of r)) (put (codes "_id") (text id) (members_in held.body)) refl
-        ∙ put_at_other (codes "_deleted") (codes "_id") (text id) (members_in held.body) refl
-        ∙ plain_lacks (codes "_deleted") (members_in held.body) refl plain)
+        (put_at_other (codes "_deleted") (codes "_rev") (text (text_of r)) (put (codes "_id") (text id) (body_members held.body)) refl
+        ∙ put_at_other (codes "_deleted") (codes "_id") (text id) (body_members held.body) refl
+        ∙ plain_lacks (codes "_deleted") (body_members held.body) refl plain)
 
-body_shown : (id : List ℕ) (r : Revision) (path : List Revision) (held : Held) → is_plain held.body ≡ true → without_special (shown_all id r path held) ≡ members_in held.body
+body_shown : (id : List ℕ) (r : Revision) (path : List Revision) (held : Held) → is_plain held.body ≡ true → without_special (shown_all id r path held) ≡ body_members held.body
 body_shown id r path held plain =
     put_special (codes "_revisions") (revisions_of r path) (shown_members id r held) refl
     ∙ by held.deleted
-    ∙ put_special (codes "_rev") (text (text_of r)) (put (codes "_id") (text id) (members_in held.body)) refl
-    ∙ put_special (codes "_id") (text id) (members_in held.body) refl
-    ∙ plain_whole (members_in held.body) plain
+    ∙ put_special (codes "_rev") (text (text_of r)) (put (codes "_id") (text id) (body_members held.body)) refl
+    ∙ put_special (codes "_id") (text id) (body_members held.body) refl
+    ∙ plain_whole (body_members held.body) plain
   where
     by : (b : Bool) → without_special (with_mark b (named_members id r held)) ≡ without_special (named_members id r held)
     by true = put_special (codes "_deleted") (truth true) (named_members id r held) refl
     by false = refl
 
-object_of : (body : Value) → is_object body ≡ true → object (members_in body) ≡ body
+object_of : (body : Value) → is_object body ≡ true → object (body_members body) ≡ body
 object_of null e = absurd cc
 object_of (truth b) e = absurd cc
 object_of (whole n) e = absurd cc
@@ -189,7 +189,7 @@ sent_held id other r path held rev deleted body plain is_body e =
     let s = said_of sent_with (words_in other v) (body_for other v) (sent_with (rev, deleted) body) e in
     let marked : Some held.deleted ≡ Some s.words_said.1 =
     sym (mark_shown id r path held plain)
-    ∙ mark_of (fits_id other (member_of v (codes "_id"))) (revision_in (member_of v (codes "_rev"))) (mark_in (member_of v (codes "_deleted"))) s.words_said s.words_are in
+    ∙ mark_of (fits_id other (member_of v (codes "_id"))) (given_revision (member_of v (codes "_rev"))) (mark_in (member_of v (codes "_deleted"))) s.words_said s.words_are in
     let is : s.body_said ≡ object (without_special (shown_all id r path held)) = kept_body _ (object (without_special (shown_all id r path held))) s.body_said (suited other (body_in v) s.body_said s.body_is) in (
       along sent_with (λ x. x.deleted) (sent_with (rev, deleted) body) (sent_with s.words_said s.body_said) s.is ∙ sym (same_inside held.deleted s.words_said.1 marked),
       along sent_with (λ x. x.body) (sent_with (rev, deleted) body) (sent_with s.words_said s.body_said) s.is ∙ is ∙ ap object (body_shown id r path held plain) ∙ object_of held.body is_body,
@@ -199,13 +199,13 @@ sent_held id other r path held rev deleted body plain is_body e =
 path_led : (id : List ℕ) (r : Revision) (path : List Revision) (held : Held) (rev : Option Revision) (ancestry : Ancestry) → counts_down path ≡ true
     → ancestry_in (object (shown_all id r path held)) rev ≡ Some ancestry → ancestry.path ≡ path
 path_led id r path held rev ancestry counts e =
-    let given : ancestry_by (Some (revisions_in (revisions_of r path))) rev ≡ Some ancestry =
-    ap (λ (o : Option Value). ancestry_by (option_map revisions_in o) rev) (sym (put_at_same (codes "_revisions") (revisions_of r path) (shown_members id r held))) ∙ e in
-    path_back path ancestry.path counts (given_path (has_only (codes "start" ∷ codes "ids" ∷ []) (revisions_of r path)) (revisions_of r path) ancestry (newest_given rev (revisions_in (revisions_of r path)) ancestry given))
+    let given : ancestry_by (Some (ancestry_given (revisions_of r path))) rev ≡ Some ancestry =
+    ap (λ (o : Option Value). ancestry_by (option_map ancestry_given o) rev) (sym (put_at_same (codes "_revisions") (revisions_of r path) (shown_members id r held))) ∙ e in
+    path_back path ancestry.path counts (given_path (has_only (codes "start" ∷ codes "ids" ∷ []) (revisions_of r path)) (revisions_of r path) ancestry (newest_given rev (ancestry_given (revisions_of r path)) ancestry given))
 
 -- it is the document of this id
-id_said : (o : Option (List ℕ)) (id named : List ℕ) → o ≡ Some id → option_and_then (λ t. id_if t) o ≡ Some named → named ≡ id
-id_said o id named is e = by (is_bulk_id id) (ap (λ (x : Option (List ℕ)). option_and_then (λ t. id_if t) x) (sym is) ∙ e)
+id_said : (o : Option (List ℕ)) (id named : List ℕ) → o ≡ Some id → option_and_then (λ t. id_in_bulk t) o ≡ Some named → named ≡ id
+id_said o id named is e = by (is_bulk_id id) (ap (λ (x : Option (List ℕ)). option_and_then (λ t. id_in_bulk t) x) (sym is) ∙ e)
   where
     by : (b : Bool) → cond b (Some id) None ≡ Some named → named ≡ id
     by true k = sym (same_inside id named k)
@@ -222,14 +222,14 @@ comes db id r held w sound holds said =
     let h = history_at db id in
     let root = rooted_at db sound id in
     let known = held_known h r held holds in
-    let path = line h r.number r in
+    let path = path_from h r.number r in
     let chained : chain h r ≡ Some path = ap (λ (b : Bool). cond b (Some path) None) known in
     let s : IsSaidBy (object (shown_all id r path held)) w = subst (λ (o : Option (List Revision)). IsSaidBy (object (with_path r o (shown_members id r held))) w) chained said in
     let plain = sound.plain id r held holds in
     let sent = sent_held id w.id r path held s.rev w.write.deleted w.write.body plain (body_at db sound id r held holds).object s.says in
     let led = path_led id r path held s.rev s.ancestry (line_counts h root r.number r refl known).1 s.leads in
     let same : w.id ≡ id = id_said (member_text (codes "_id") (object (shown_all id r path held))) id w.id (ap (λ (o : Option Value). option_and_then (λ m. text_in m) o) (id_shown id r path held)) s.named in
-    let brought : held_by w.write ≡ held = (λ i. let x : Held = record { deleted = sent.0 i; body = sent.1 i } in x) in
+    let brought : held_of_write w.write ≡ held = (λ i. let x : Held = record { deleted = sent.0 i; body = sent.1 i } in x) in
     record {
       rev = r;
       path = ap (λ (i : List ℕ). chain (history_at db i) r) same ∙ chained ∙ ap Some (sym led ∙ sym s.path);

@@ -11,7 +11,7 @@ use Rattle.store.specs.Contents.{Contents}
 use Rattle.store.proofs.Laters.{later_itself, later_still}
 use Rattle.node.specs.Runs.{Steps}
 use Rattle.store.specs.Database.{Database, IsLater, history_at, sequence_at}
-use Rattle.repl.specs.Configuration.{Configuration}
+use Rattle.repl.specs.Configuration.{PassConfiguration}
 use Rattle.repl.specs.Passes.{Pass, answered_in, first_pass, pass_after, phase_after_loss, with_changes, with_source, with_target}
 use Rattle.repl.specs.Replies.{Changes, changes_listed, checkpoint_read}
 use Rattle.repl.specs.Turns.{Turn, after_turn, after_turns, answered, has_listed, lists_at, lists_in, lost, replies_in, start_by, told_at, told_of}
@@ -23,17 +23,17 @@ use Rattle.repl.proofs.ReportLemmas.{all_told}
 use Rattle.repl.proofs.StartLemmas.{start_is}
 use Rattle.passes.proofs.Missing.{or_left, or_parts, or_right}
 use Rattle.passes.specs.Owed.{Covers, Went, has_covered}
-use Rattle.passes.specs.Settled.{is_entry_of, is_reported, is_settled}
+use Rattle.passes.specs.Settled.{is_report_entry_of, is_reported, is_settled}
 use Rattle.passes.proofs.Rounds.{owes_nothing, rounds_cover}
 use Rattle.world.specs.Happening.{Happening, Sight}
 use Rattle.world.specs.Keeping.{Keeping}
 use Rattle.world.specs.Network.{Network, Transfer, transfer_at}
-use Rattle.world.specs.Playing.{HappensBy, PlaysBy}
-use Rattle.world.specs.Service.{HandlingOf, IsHandled}
+use Rattle.world.specs.Playing.{Happens, Plays}
+use Rattle.world.specs.Service.{Handling, IsHandled, alike}
 use Rattle.replication.specs.Courses.{Course, DonePassesHaveListedInCourses, DonePassesOweNothingInCourses, GoesBy, IsArranged, ListsLastBy, ListsLastThrough, RoundsCoverInCourses, Stage, arranges, requests_by, requests_through, runs, turns_by}
-use Rattle.replication.specs.Finished.{Begins, DonePassesHaveListed, DonePassesOweNothing, IsTold, ListsLast, ListsLastIn, database_at, scene_of, source_of, takes_list, target_of}
-use Rattle.replication.specs.Requests.{AreKept, Handled, requests_of}
-use Rattle.replication.specs.Runs.{RunOf, pass_at, turns_at, turns_in, turns_of}
+use Rattle.replication.specs.Finished.{PassBegins, DonePassesHaveListed, DonePassesOweNothing, IsTold, ListsLast, ListsLastIn, database_at, scene_of, source_of, takes_list, target_of}
+use Rattle.replication.specs.Requests.{DatabasesStay, Handled, requests_of}
+use Rattle.replication.specs.Runs.{Run, pass_at, turns_at, turns_in, turns_of}
 use Rattle.replication.proofs.Keepings.{LawfulAt, Nodes, all_lawful, plays_later, plays_lawful}
 use Rattle.replication.proofs.Again.{Stays, back, front, keeping, lists_again, plays_again}
 use Rattle.replication.proofs.Shapes.{mapped_of}
@@ -48,7 +48,7 @@ settled_more target now refused more id r later e =
     ⊎_elim
     (λ known. or_left (is_known (history_at now id) r) (is_reported id r (refused ++ more)) (later.known id r known))
     (λ told. or_right (is_known (history_at now id) r) (is_reported id r (refused ++ more))
-    (list_any-append (λ v. is_entry_of id r v) refused more ∙ or_left (is_reported id r refused) (is_reported id r more) told))
+    (list_any-append (λ v. is_report_entry_of id r v) refused more ∙ or_left (is_reported id r refused) (is_reported id r more) told))
     (or_parts (is_known (history_at target id) r) (is_reported id r refused) e)
 
 told_join : (p : Pass) (xs ys : List Turn) → told_of p (xs ++ ys) ≡ told_of p xs ++ told_of (after_turns p xs) ys
@@ -58,7 +58,7 @@ told_join p (x ∷ xs) ys =
     ∙ sym (append_assoc (told_at p x) (told_of (after_turn p x) xs) (told_of (after_turns (after_turn p x) xs) ys))
 
 -- what is reported stays, and more may come
-refused_more : (c : Configuration) (xs ys : List Turn) (p q : Pass) → p ≡ after_turns (first_pass c) xs → q ≡ after_turns p ys → q.refused ≡ p.refused ++ told_of (after_turns (first_pass c) xs) ys
+refused_more : (c : PassConfiguration) (xs ys : List Turn) (p q : Pass) → p ≡ after_turns (first_pass c) xs → q ≡ after_turns p ys → q.refused ≡ p.refused ++ told_of (after_turns (first_pass c) xs) ys
 refused_more c xs ys p q is then =
     ap (λ (x : Pass). x.refused) (then ∙ ap (λ (x : Pass). after_turns x ys) is ∙ sym (turns_join (first_pass c) xs ys))
     ∙ all_told c (xs ++ ys) ∙ told_join (first_pass c) xs ys
@@ -67,7 +67,7 @@ refused_more c xs ys p q is then =
 stands_at : (n : ℕ) (t : Transfer) (now : Network Contents) (last : Database) (p : Pass) → Stands n t now last p → pass_at now.transfers n ≡ Some p
 stands_at n t now last p s = ap (λ (o : Option Transfer). option_map (λ x. x.pass) o) s.there
 
-event_goes : {S : Type 0} (handling : HandlingOf S) (n : ℕ) (h : Happening) (old : Network S) (seen : List Sight) (new : Network S) (here : HappensBy handling old h seen new) (p : Pass)
+event_goes : {S : Type 0} (handling : Handling S) (n : ℕ) (h : Happening) (old : Network S) (seen : List Sight) (new : Network S) (here : Happens handling old h seen new) (p : Pass)
     → pass_at old.transfers n ≡ Some p → pass_at new.transfers n ≡ Some (after_turns p (turns_at handling n h old seen new here))
 event_goes handling n h old seen new here p e =
     let m = mapped_of (λ (t : Transfer). t.pass) (transfer_at old.transfers n) p e in
@@ -83,7 +83,7 @@ record Arrives (n : ℕ) (t : Transfer) (listed now : Network Contents) (p : Pas
   is : (last ≡ source_of t listed) ⊎ IsStopped p.phase
 
 arrives : (n : ℕ) (t : Transfer) (listed : Network Contents) (hs : List Happening) (old now : Network Contents) (seen : List Sight) (before : Database) (p : Pass) → IsTold t.pass.configuration
-    → Stands n t old before p → (run : PlaysBy (Keeping t) old hs seen now) → ListsLastIn (Keeping t) n hs old seen now run listed
+    → Stands n t old before p → (run : Plays (Keeping t) old hs seen now) → ListsLastIn (Keeping t) n hs old seen now run listed
     → Arrives n t listed now (after_turns p (turns_in (Keeping t) n hs old seen now run))
 arrives n t listed [] old now seen before p told s run l = absurd l
 arrives n t listed (h ∷ hs) old now seen before p told s (first, others, between, here, later, order) (inl (same, lists, none)) =
@@ -109,7 +109,7 @@ arrives n t listed (h ∷ hs) old now seen before p told s (first, others, betwe
 
 -- ---- through courses
 
-abbrev plain : HandlingOf Contents
+abbrev plain : Handling Contents
 plain who = IsHandled Steps
 
 arranged_stands : (n : ℕ) (t : Transfer) (old new : Network Contents) (last : Database) (p : Pass) → IsArranged old new → Stands n t old last p → Stands n t new last p
@@ -125,14 +125,14 @@ arranged_stands n t old new last p a s = record {
 }
 
 -- through a run that keeps both databases
-run_stands : (n : ℕ) (t : Transfer) (old new : Network Contents) (run : RunOf Steps old new) (before : Database) (p : Pass) → IsTold t.pass.configuration → AreKept t (requests_of run)
+run_stands : (n : ℕ) (t : Transfer) (old new : Network Contents) (run : Run (alike Steps) old new) (before : Database) (p : Pass) → IsTold t.pass.configuration → DatabasesStay t (requests_of run)
     → Stands n t old before p → StandsAfter n t new before p (turns_of run n)
 run_stands n t old new run before p told kept s =
     let again = plays_again plain (Keeping t) (Stays t) (keeping t) run.happenings old run.seen new run.played kept in
     subst (StandsAfter n t new before p) (again.1 n) (play_stands n t run.happenings old new run.seen before p told s again.0)
 
 through : (n : ℕ) (t : Transfer) (ss : List Stage) (old new : Network Contents) (g : GoesBy Steps ss old new) (before : Database) (p : Pass) → IsTold t.pass.configuration
-    → AreKept t (requests_by Steps ss old new g) → Stands n t old before p → StandsAfter n t new before p (turns_by Steps n ss old new g)
+    → DatabasesStay t (requests_by Steps ss old new g) → Stands n t old before p → StandsAfter n t new before p (turns_by Steps n ss old new g)
 through n t [] old new g before p told kept s =
     record { listed = before; stands = subst (λ (x : Network Contents). Stands n t x before p) (sym g) s; kept = λ e. inl refl }
 through n t (runs ∷ ss) old new (between, run, rest) before p told kept s =
@@ -161,7 +161,7 @@ arrives_on n t listed between now q us a more nothing = record { last = more.lis
     by (inr stopped) k = inr (stopped_turns q us stopped)
 
 -- a run in which the last list was taken in
-run_arrives : (n : ℕ) (t : Transfer) (listed old new : Network Contents) (run : RunOf Steps old new) (before : Database) (p : Pass) → IsTold t.pass.configuration → AreKept t (requests_of run)
+run_arrives : (n : ℕ) (t : Transfer) (listed old new : Network Contents) (run : Run (alike Steps) old new) (before : Database) (p : Pass) → IsTold t.pass.configuration → DatabasesStay t (requests_of run)
     → Stands n t old before p → ListsLast run n listed → Arrives n t listed new (after_turns p (turns_of run n))
 run_arrives n t listed old new run before p told kept s l =
     let again = plays_again plain (Keeping t) (Stays t) (keeping t) run.happenings old run.seen new run.played kept in
@@ -170,7 +170,7 @@ run_arrives n t listed old new run before p told kept s l =
     (lists_again plain (Keeping t) (Stays t) (keeping t) n run.happenings old run.seen new run.played kept listed l))
 
 arrives_by : (n : ℕ) (t : Transfer) (listed : Network Contents) (ss : List Stage) (old now : Network Contents) (g : GoesBy Steps ss old now) (before : Database) (p : Pass) → IsTold t.pass.configuration
-    → AreKept t (requests_by Steps ss old now g) → Stands n t old before p → ListsLastBy Steps n ss old now g listed → Arrives n t listed now (after_turns p (turns_by Steps n ss old now g))
+    → DatabasesStay t (requests_by Steps ss old now g) → Stands n t old before p → ListsLastBy Steps n ss old now g listed → Arrives n t listed now (after_turns p (turns_by Steps n ss old now g))
 arrives_by n t listed [] old now g before p told kept s l = absurd l
 arrives_by n t listed (runs ∷ ss) old now (between, run, rest) before p told kept s (inl (l, none)) =
     subst (Arrives n t listed now) (sym (turns_join p ts us)) (on (run_arrives n t listed old between run before p told (front (Stays t) rs others kept) s l))
@@ -203,8 +203,8 @@ arrives_by n t listed (arranges ∷ ss) old now (between, arranged, rest) before
     arrives_by n t listed ss between now rest before p told kept (arranged_stands n t old between before p arranged s) l
 
 -- a course that keeps both databases, from the start of the pass
-arrives_from : (n : ℕ) (t : Transfer) (start listed now : Network Contents) (course : Course Steps start now) (p : Pass) → Begins n t start → LawfulAt start.nodes
-    → AreKept t (requests_through course) → ListsLastThrough course n listed → pass_at now.transfers n ≡ Some p → Arrives n t listed now p
+arrives_from : (n : ℕ) (t : Transfer) (start listed now : Network Contents) (course : Course Steps start now) (p : Pass) → PassBegins n t start → LawfulAt start.nodes
+    → DatabasesStay t (requests_through course) → ListsLastThrough course n listed → pass_at now.transfers n ≡ Some p → Arrives n t listed now p
 arrives_from n t start listed now course p begins lawful kept l at =
     let a = arrives_by n t listed course.stages start now course.goes (source_of t start) t.pass begins.told kept (begins_stand n t start begins lawful) l in
     subst (Arrives n t listed now) (one_pass _ p (pass_at now.transfers n) (stands_at n t now a.last _ a.stands) at) a
@@ -214,7 +214,7 @@ not_stopped : (f : Phase) → has_covered f ≡ true → IsStopped f → ⊥
 not_stopped f e (why, is) = let k : false ≡ true = sym (ap has_covered is) ∙ e in cc
 
 -- the target becomes a later one
-target_later : (n : ℕ) (t : Transfer) (ss : List Stage) (old new : Network Contents) (g : GoesBy Steps ss old new) → AreKept t (requests_by Steps ss old new g) → LawfulAt old.nodes
+target_later : (n : ℕ) (t : Transfer) (ss : List Stage) (old new : Network Contents) (g : GoesBy Steps ss old new) → DatabasesStay t (requests_by Steps ss old new g) → LawfulAt old.nodes
     → IsLater (target_of t old) (target_of t new)
 target_later n t [] old new g kept lawful = subst (λ (x : Network Contents). IsLater (target_of t old) (target_of t x)) (sym g) (later_itself (target_of t old))
 target_later n t (runs ∷ ss) old new (between, run, rest) kept lawful =
@@ -229,7 +229,7 @@ target_later n t (arranges ∷ ss) old new (between, arranged, rest) kept lawful
     (target_later n t ss between new rest kept (subst LawfulAt (sym arranged.nodes) lawful))
 
 -- a later event keeps what is settled
-stays_settled : (n : ℕ) (t : Transfer) (now later : Network Contents) (last : Database) (p q : Pass) → Stands n t now last p → (more : Course Steps now later) → AreKept t (requests_through more)
+stays_settled : (n : ℕ) (t : Transfer) (now later : Network Contents) (last : Database) (p q : Pass) → Stands n t now last p → (more : Course Steps now later) → DatabasesStay t (requests_through more)
     → pass_at later.transfers n ≡ Some q → (id : List ℕ) (r : Revision) → is_settled (target_of t now) p.refused id r ≡ true → is_settled (target_of t later) q.refused id r ≡ true
 stays_settled n t now later last p q s more kept at id r e =
     let ys = turns_by Steps n more.stages now later more.goes in
@@ -344,7 +344,7 @@ none_taken : (o : Option Pass) → takes_list o [] ≡ false
 none_taken None = refl
 none_taken (Some p) = refl
 
-last_list : {S : Type 0} (handling : HandlingOf S) (n : ℕ) (hs : List Happening) (old : Network S) (seen : List Sight) (now : Network S) (p : PlaysBy handling old hs seen now)
+last_list : {S : Type 0} (handling : Handling S) (n : ℕ) (hs : List Happening) (old : Network S) (seen : List Sight) (now : Network S) (p : Plays handling old hs seen now)
     → ((listed : Network S) × ListsLastIn handling n hs old seen now p listed) ⊎ (takes_list (pass_at old.transfers n) (turns_in handling n hs old seen now p) ≡ false)
 last_list handling n [] old seen now p = inr (none_taken (pass_at old.transfers n))
 last_list {S} handling n (h ∷ hs) old seen now (first, others, between, here, later, order) = by (last_list handling n hs between others now later)
@@ -374,7 +374,7 @@ last_list {S} handling n (h ∷ hs) old seen now (first, others, between, here, 
     by (inr none) = here_or none (takes_list (pass_at old.transfers n) ts) refl
 
 -- the last list in a course, or none
-none_later : (n : ℕ) (old new : Network Contents) (run : RunOf Steps old new) (us : List Turn) (o : Option Pass) → pass_at old.transfers n ≡ o → takes_list o (turns_of run n) ≡ false
+none_later : (n : ℕ) (old new : Network Contents) (run : Run (alike Steps) old new) (us : List Turn) (o : Option Pass) → pass_at old.transfers n ≡ o → takes_list o (turns_of run n) ≡ false
     → takes_list (pass_at new.transfers n) us ≡ false → takes_list o (turns_of run n ++ us) ≡ false
 none_later n old new run us None is e f = refl
 none_later n old new run us (Some p) is e f =
@@ -436,8 +436,8 @@ done_has_listed_in_courses n c start now course p first at ended = (by (last_by 
 
 -- ---- one run
 
-kept_alone : (t : Transfer) (rs : List (Handled Contents)) → AreKept t rs → AreKept t (rs ++ [])
-kept_alone t rs h = subst (AreKept t) (sym (append-nil rs)) h
+kept_alone : (t : Transfer) (rs : List (Handled Contents)) → DatabasesStay t rs → DatabasesStay t (rs ++ [])
+kept_alone t rs h = subst (DatabasesStay t) (sym (append-nil rs)) h
 
 pub done_owes : DonePassesOweNothing
 done_owes n t start listed now later run more p q begins kept l at ended kept_later then id r good leaf gt =

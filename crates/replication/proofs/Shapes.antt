@@ -7,10 +7,11 @@ use Rattle.couch_json.specs.Parts.{has_only, is_object, items_in, text_in, whole
 use Rattle.couch_json.specs.Range.{greatest_count}
 use Rattle.couch_json.specs.Value.{Items, Value, item, member_of, no_items}
 use Rattle.repl.specs.Calls.{Revisions}
-use Rattle.repl.specs.Checkpoints.{Checkpoint, Session, checkpoint_in, session_in, start_of, common_sequence, smaller_or, sequence_of}
-use Rattle.repl.specs.Replies.{Changes, Opened, change_in, changes_in, differences_in, document, document_by, documents_of, has_missing_lists, missing, missing_in, missing_of, missing_of_each, opened_in, revision_in, unless_empty}
-use Rattle.repl.specs.Shapes.{count_at, count_in, count_of, each_in, list_at, list_in, text_at}
-use Rattle.replication.proofs.LawfulParts.{member_part, text_part, items_part}
+use Rattle.repl.specs.Checkpoints.{Checkpoint, Session, checkpoint_in, session_in, start_of, common_sequence, smaller_or, sequence_of_session}
+use Rattle.repl.specs.Replies.{Changes, Opened, change_in, changes_in_reply, differences_in_reply, document, opened_by, documents_of_opened, has_missing_lists, missing, missing_in, missing_of, missing_of_each, opened_in, revision_in_reply, unless_empty}
+use Rattle.repl.specs.Shapes.{count_at, count_in_value, count_of, each_in, list_at, list_in, text_at}
+use Rattle.couch_json.proofs.LawfulParts.{member_part}
+use Rattle.replication.proofs.LawfulParts.{text_part, items_part}
 
 -- ---- options
 
@@ -64,7 +65,7 @@ counted_by (negsuc m) n e = absurd cc
 
 pub count_there : (name : List ℕ) (v : Value) (n : ℕ) → count_at name v ≡ Some n → n ≤ greatest_count
 count_there name v n e =
-    let t = then_of (λ w. count_in w) (member_of v name) n e in
+    let t = then_of (λ w. count_in_value w) (member_of v name) n e in
     let u = then_of (λ z. count_of z) (whole_in t.first) n t.then in
     counted_by u.first n u.then
 
@@ -105,7 +106,7 @@ smaller_counted n other (Some m) p q = omega (arith, p)
 
 common_counted : (ss target : List Session) → AllByRecursion (λ (s : Session). s.sequence ≤ greatest_count) ss → common_sequence ss target ≤ greatest_count
 common_counted [] target h = omega arith
-common_counted (s ∷ ss) target h = smaller_counted s.sequence (common_sequence ss target) (sequence_of s.session target) h.0 (common_counted ss target h.1)
+common_counted (s ∷ ss) target h = smaller_counted s.sequence (common_sequence ss target) (sequence_of_session s.session target) h.0 (common_counted ss target h.1)
 
 either : (b : Bool) (m n : ℕ) → m ≤ greatest_count → n ≤ greatest_count → cond b m n ≤ greatest_count
 either true m n p q = p
@@ -124,16 +125,16 @@ pub record AreTexts (row : Revisions) : Type 0 where
   pub id : IsUtf8 row.id
   pub revisions : AllByRecursion IsUtf8 row.revisions
 
-revision_text : (v : Value) (s : List ℕ) → IsLawful v → revision_in v ≡ Some s → IsUtf8 s
+revision_text : (v : Value) (s : List ℕ) → IsLawful v → revision_in_reply v ≡ Some s → IsUtf8 s
 revision_text v s h e = text_there (codes "rev") v s h e
 
 change_texts : (v : Value) (row : Revisions) → IsLawful v → change_in v ≡ Some row → AreTexts row
 change_texts v row h e =
-    let t = then_of (λ (i : List ℕ). option_map (λ (rs : List (List ℕ)). record { id = i; revisions = rs }) (list_at (codes "changes") revision_in v)) (text_at (codes "id") v) row e in
-    let m = mapped_of (λ (rs : List (List ℕ)). record { id = t.first; revisions = rs }) (list_at (codes "changes") revision_in v) row t.then in
+    let t = then_of (λ (i : List ℕ). option_map (λ (rs : List (List ℕ)). record { id = i; revisions = rs }) (list_at (codes "changes") revision_in_reply v)) (text_at (codes "id") v) row e in
+    let m = mapped_of (λ (rs : List (List ℕ)). record { id = t.first; revisions = rs }) (list_at (codes "changes") revision_in_reply v) row t.then in
     subst AreTexts m.is (record {
       id = text_there (codes "id") v t.first h t.was;
-      revisions = list_there revision_in IsUtf8 revision_text (codes "changes") v m.first h m.was;
+      revisions = list_there revision_in_reply IsUtf8 revision_text (codes "changes") v m.first h m.was;
     })
 
 -- what a list of changes says: its end is a count, and its leaves are texts
@@ -141,7 +142,7 @@ pub record AreRead (c : Changes) : Type 0 where
   pub sequence : c.sequence ≤ greatest_count
   pub leaves : AllByRecursion AreTexts c.leaves
 
-pub changes_read : (v : Value) (c : Changes) → IsLawful v → changes_in v ≡ Some c → AreRead c
+pub changes_read : (v : Value) (c : Changes) → IsLawful v → changes_in_reply v ≡ Some c → AreRead c
 changes_read v c h e =
     let t = then_of (λ (n : ℕ). option_map (λ (ls : List Revisions). record { sequence = n; leaves = ls }) (list_at (codes "results") change_in v)) (count_at (codes "last_seq") v) c e in
     let m = mapped_of (λ (ls : List Revisions). record { sequence = t.first; leaves = ls }) (list_at (codes "results") change_in v) c t.then in
@@ -175,7 +176,7 @@ each_missing : (v : Value) (ls : List Revisions) → IsLawful v → AllByRecursi
 each_missing v [] h k = tt
 each_missing v (l ∷ ls) h k = unless_texts l.id (missing_of l.id v) (missing_of_each v ls) k.0.id (missing_texts l.id v h) (each_missing v ls h k.1)
 
-pub differences_texts : (v : Value) (listed lacking : List Revisions) → IsLawful v → AllByRecursion AreTexts listed → differences_in listed v ≡ Some lacking → AllByRecursion AreTexts lacking
+pub differences_texts : (v : Value) (listed lacking : List Revisions) → IsLawful v → AllByRecursion AreTexts listed → differences_in_reply listed v ≡ Some lacking → AllByRecursion AreTexts lacking
 differences_texts v listed lacking h k e = by (has_missing_lists v) e
   where
     by : (b : Bool) → cond b (Some (missing_of_each v listed)) None ≡ Some lacking → AllByRecursion AreTexts lacking
@@ -189,7 +190,7 @@ abbrev pub IsLawfulIfOpened : Opened → Type 0
 IsLawfulIfOpened (document v) = IsLawful v
 IsLawfulIfOpened (missing rev) = ⊤
 
-document_lawful : (o : Option Value) (x : Opened) → IfSome o IsLawful → document_by o ≡ Some x → IsLawfulIfOpened x
+document_lawful : (o : Option Value) (x : Opened) → IfSome o IsLawful → opened_by o ≡ Some x → IsLawfulIfOpened x
 document_lawful None x h e = absurd cc
 document_lawful (Some v) x h e = by (is_object v) e
   where
@@ -208,16 +209,16 @@ opened_lawful v x h e = by (has_only (codes "ok" ∷ []) v) (has_only (codes "mi
     ok None is = tt
     ok (Some w) is = member_part v w (codes "ok") h is
 
-    by : (a b : Bool) → cond a (document_by (member_of v (codes "ok"))) (cond b (option_map missing (text_at (codes "missing") v)) None) ≡ Some x → IsLawfulIfOpened x
+    by : (a b : Bool) → cond a (opened_by (member_of v (codes "ok"))) (cond b (option_map missing (text_at (codes "missing") v)) None) ≡ Some x → IsLawfulIfOpened x
     by true b same = document_lawful (member_of v (codes "ok")) x (ok (member_of v (codes "ok")) refl) same
     by false true same = missing_lawful (text_at (codes "missing") v) x same
     by false false same = absurd cc
 
-came_lawful : (xs : List Opened) → AllByRecursion IsLawfulIfOpened xs → AllByRecursion IsLawful (documents_of xs)
+came_lawful : (xs : List Opened) → AllByRecursion IsLawfulIfOpened xs → AllByRecursion IsLawful (documents_of_opened xs)
 came_lawful [] h = tt
 came_lawful (document v ∷ xs) h = (h.0, came_lawful xs h.1)
 came_lawful (missing rev ∷ xs) h = came_lawful xs h.1
 
 -- the documents that came are lawful
-pub opened_documents : (v : Value) (xs : List Opened) → IsLawful v → list_in opened_in v ≡ Some xs → AllByRecursion IsLawful (documents_of xs)
+pub opened_documents : (v : Value) (xs : List Opened) → IsLawful v → list_in opened_in v ≡ Some xs → AllByRecursion IsLawful (documents_of_opened xs)
 opened_documents v xs h e = came_lawful xs (list_read opened_in IsLawfulIfOpened opened_lawful v xs h e)

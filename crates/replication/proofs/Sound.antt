@@ -19,15 +19,16 @@ use Rattle.node.specs.Answer.{answer}
 use Rattle.node.specs.Runs.{Steps}
 use Rattle.repl.specs.Calls.{Revisions, documents_value, revisions_put, revisions_value, texts_value}
 use Rattle.repl.specs.Checkpoints.{Checkpoint, checkpoint_in}
-use Rattle.repl.specs.Configuration.{Configuration}
-use Rattle.repl.specs.Passes.{Pass, first_of_pending, first_pass, lost_of, pass_after, with_changes, with_differences, with_failures, with_opened, with_source, with_target, with_target_reread, with_target_written}
-use Rattle.repl.specs.Replies.{Changes, Opened, Stored, checkpoint_read, documents_of, is_missing, nothing_stored, said_at, stored_by, stored_in}
+use Rattle.repl.specs.Configuration.{PassConfiguration}
+use Rattle.repl.specs.Passes.{Pass, first_of_pending, first_pass, lost_of, pass_after, with_changes, with_lacking, with_failures, with_opened, with_source, with_target, with_target_reread, with_target_written}
+use Rattle.repl.specs.Replies.{Changes, Opened, Stored, checkpoint_read, documents_of_opened, is_missing, nothing_stored, said_at, stored_by, stored_in}
 use Rattle.repl.specs.Shapes.{text_at}
 use Rattle.repl.specs.declared.why.Why.{Why}
 use Rattle.repl.proofs.LossLemmas.{lost_by}
 use Rattle.passes.specs.Owed.{AreDistinct}
 use Rattle.passes.proofs.Told.{Said, fine, said}
-use Rattle.replication.proofs.LawfulParts.{put_lawful, text_is_bytes, written_list, lawful_texts}
+use Rattle.couch_json.proofs.LawfulParts.{put_lawful}
+use Rattle.replication.proofs.LawfulParts.{text_is_bytes, written_list, lawful_texts}
 use Rattle.replication.proofs.Shapes.{AreCounts, AreRead, AreTexts, checkpoint_counted, mapped_of, start_counted}
 
 -- ---- what a pass has in hand
@@ -44,7 +45,7 @@ pub record Keeps (o : Option Checkpoint) (n m : ℕ) (rows rest : List Revisions
 abbrev pub IsSound : Pass → Type 0
 IsSound p = Keeps p.older p.since p.last_seq p.leaves p.pending p.documents
 
-pub first_sound : (c : Configuration) → IsSound (first_pass c)
+pub first_sound : (c : PassConfiguration) → IsSound (first_pass c)
 first_sound c = record { older = tt; since = omega arith; last = omega arith; leaves = tt; distinct = tt; pending = tt; documents = tt }
 
 -- ---- what it can ask
@@ -143,11 +144,11 @@ target_sound p s h = record { older = h.older; since = start_counted p.older s.c
 pub changes_sound : (p : Pass) (c : Changes) → IsSound p → AreRead c → AreDistinct c.leaves → IsSound (with_changes p c)
 changes_sound p c h k d = record { older = h.older; since = h.since; last = k.sequence; leaves = k.leaves; distinct = d; pending = h.pending; documents = h.documents }
 
-pub differences_sound : (p : Pass) (missing : List Revisions) → IsSound p → AllByRecursion AreTexts missing → IsSound (with_differences p missing)
+pub differences_sound : (p : Pass) (missing : List Revisions) → IsSound p → AllByRecursion AreTexts missing → IsSound (with_lacking p missing)
 differences_sound p missing h k = record { older = h.older; since = h.since; last = h.last; leaves = tt; distinct = tt; pending = k; documents = h.documents }
 
-pub opened_sound : (p : Pass) (opened : List Opened) → IsSound p → AllByRecursion IsLawful (documents_of opened) → IsSound (with_opened p opened)
-opened_sound p opened h k = record { older = h.older; since = h.since; last = h.last; leaves = h.leaves; distinct = h.distinct; pending = without_first p.pending h.pending; documents = joined p.documents (documents_of opened) h.documents k }
+pub opened_sound : (p : Pass) (opened : List Opened) → IsSound p → AllByRecursion IsLawful (documents_of_opened opened) → IsSound (with_opened p opened)
+opened_sound p opened h k = record { older = h.older; since = h.since; last = h.last; leaves = h.leaves; distinct = h.distinct; pending = without_first p.pending h.pending; documents = joined p.documents (documents_of_opened opened) h.documents k }
 
 pub failures_sound : (p : Pass) (failures : List Value) → IsSound p → IsSound (with_failures p failures)
 failures_sound p failures h = record { older = h.older; since = h.since; last = h.last; leaves = h.leaves; distinct = h.distinct; pending = h.pending; documents = tt }

@@ -14,13 +14,13 @@ use Rattle.couch_http.specs.Reply.{Reply}
 use Rattle.store.specs.Contents.{Contents, new_database}
 use Rattle.store.specs.Database.{Database}
 use Rattle.policy.specs.declared.action.Action.TheVariants.{Read, WriteSecurity}
-use Rattle.api.specs.Asking.{method_of, plain}
+use Rattle.api.specs.Asking.{method_named, plain}
 use Rattle.api.specs.Paths.{database_name_in}
 use Rattle.api.specs.declared.method.RequestMethod.{RequestMethod}
 use Rattle.api.specs.declared.method.RequestMethod.TheVariants.{Delete, Get, Post, Put}
 use Rattle.api.specs.declared.page.Page.{Page}
 use Rattle.api.specs.declared.page.Page.TheVariants.{Welcome, AllDatabases, Database as DatabasePage, Security, BulkDocuments, AllDocuments, Changes, Differences, Find, Index, View, Document, LocalDocument}
-use Rattle.api.specs.Refusals.{next}
+use Rattle.api.specs.Refusals.{and_then}
 use Rattle.api.specs.Routing.{page_of}
 use Rattle.api.specs.declared.refusal.Refusal.{Refusal}
 use Rattle.node.specs.Answer.{Change, Outcome, Task, admin_task, administration, created, creation, database_name_of, inside, judgement, kept, removal, settlement, task_of, with_change, with_effect_at}
@@ -29,7 +29,7 @@ use Rattle.node.specs.Work.{with_effect}
 use Rattle.node.specs.Works.{difference_list, document_finds, local_written, security_written}
 use Rattle.node.proofs.Tasks.{IsMade, judged_right, same, went}
 use Rattle.world.specs.Network.{Transfer, transfer_at}
-use Rattle.world.specs.Service.{Asker, IsHandled}
+use Rattle.world.specs.Service.{Asker, IsHandled, alike}
 use Rattle.replication.specs.Finished.{found_or_new}
 use Rattle.replication.proofs.Places.{one_transfer}
 use Rattle.replication.proofs.Removals.{plays_so}
@@ -77,7 +77,7 @@ other_step c a m r after name apart (inr (inr failed)) = subst (λ (x : Contents
 -- what may not write asks for nothing that writes
 quiet_created : (caller : auth.Identity) (m : Message) (task : Task) → admin_task caller m (λ name. created name (plain m)) ≡ Ok task → IsQuiet task
 quiet_created caller m task e =
-    let k = went (database_name_of m) (λ name. next (administration caller) (λ _. Ok (created name (plain m)))) task e in
+    let k = went (database_name_of m) (λ name. and_then (administration caller) (λ _. Ok (created name (plain m)))) task e in
     let l = went (administration caller) (λ _. Ok (created k.first (plain m))) task k.then in
     subst IsQuiet (same {A = Task} _ task l.then) tt
 
@@ -103,13 +103,13 @@ quiet_page LocalDocument (Some Get) caller m task none e = quiet_get LocalDocume
 quiet_page LocalDocument (Some Put) caller m task none e = quiet_work Read m (λ name. local_written caller m) task (λ name. quiet_local caller m) e
 quiet_page page method caller m task none e = absurd cc
 
-writes_none : (c : auth.Configuration) (a : Contents) (m : Message) (r : Reply) (after : Contents) → may_write_at (page_of m.path) (method_of m.method) ≡ false → Steps c a m r after → WritesNowhere a after
+writes_none : (c : auth.Configuration) (a : Contents) (m : Message) (r : Reply) (after : Contents) → may_write_at (page_of m.path) (method_named m.method) ≡ false → Steps c a m r after → WritesNowhere a after
 writes_none c a m r after none step =
     quiet_step c a m r after
-    (λ page caller task at e. quiet_page page (method_of m.method) caller m task (ap (λ (o : Option Page). may_write_at o (method_of m.method)) (sym at) ∙ none) e) step
+    (λ page caller task at e. quiet_page page (method_named m.method) caller m task (ap (λ (o : Option Page). may_write_at o (method_named m.method)) (sym at) ∙ none) e) step
 
 module _ (who : Asker) (old : Nodes) (place : ℕ) (m : Message) (r : Reply) (new : Nodes) (h : IsHandled Steps old place m r new) where
-  spared_here : (name : List ℕ) → (database_name_in m.path ≢ Some name) ⊎ (may_write_at (page_of m.path) (method_of m.method) ≡ false) → BecomesAt old place name new KeepsDocuments
+  spared_here : (name : List ℕ) → (database_name_in m.path ≢ Some name) ⊎ (may_write_at (page_of m.path) (method_named m.method) ≡ false) → BecomesAt old place name new KeepsDocuments
   spared_here name (inl apart) = here old new place m r h name KeepsDocuments (other_step h.node.configuration h.node.store m r h.after name apart h.handled)
   spared_here name (inr none) = anywhere old new place m r h place name (writes_none h.node.configuration h.node.store m r h.after none h.handled)
 
@@ -120,9 +120,11 @@ module _ (who : Asker) (old : Nodes) (place : ℕ) (m : Message) (r : Reply) (ne
   spared_at q name (inl is) (inr spares) = subst (λ (x : ℕ). BecomesAt old x name new KeepsDocuments) (sym is) (spared_here name spares)
 
 pub sparing : SparingRuns
-sparing p q t old new run h =
-    plays_so (λ who. IsHandled Steps)
-    (λ r. IsOneOf p q r.who ⊎ (Spares t.from t.pass.configuration.source_db r × Spares t.to t.pass.configuration.target_db r)) (λ r. IsOneOf p q r.who ⊎ KeepsBoth t r.old r.new)
+sparing two old new run h =
+    let t = two.there in
+    plays_so (alike Steps)
+    (λ r. IsOneOf two.there_number two.back_number r.who ⊎ (Spares t.from t.pass.configuration.source_db r × Spares t.to t.pass.configuration.target_db r))
+    (λ r. IsOneOf two.there_number two.back_number r.who ⊎ KeepsBoth t r.old r.new)
     (λ who a place m r b handled theirs.
     ⊎_elim (λ one. inl one)
     (λ both. inr (
@@ -133,7 +135,7 @@ sparing p q t old new run h =
 
 pub sparing_groups : SparingGroups
 sparing_groups g old new run h =
-    plays_so (λ who. IsHandled Steps) (λ r. IsOf g r.who ⊎ ((place : ℕ) (name : List ℕ) → g.databases place name ≡ true → Spares place name r)) (λ r. IsOf g r.who ⊎ IsPeaceful g r.old r.new)
+    plays_so (alike Steps) (λ r. IsOf g r.who ⊎ ((place : ℕ) (name : List ℕ) → g.databases place name ≡ true → Spares place name r)) (λ r. IsOf g r.who ⊎ IsPeaceful g r.old r.new)
     (λ who a place m r b handled ours.
     ⊎_elim (λ one. inl one) (λ spares. inr (inl (λ q name member. spared_at who a place m r b handled q name (cases_eq q place) (spares q name member)))) ours) run.happenings old run.seen
     new run.played h
@@ -152,8 +154,12 @@ started ts t v (suc n) is = ⊎_elim (λ e. inl e) (λ k. inr (k.1, k.2 ∙ ap (
 
 pub arrange : CallsArrange
 arrange = record {
-  connecting = λ p q t u old homes connections. record { nodes = refl; there = inl refl; back = inl refl };
-  starting = λ p q t u v old there back. record { nodes = refl; there = started old.transfers t v p there; back = started old.transfers u v q back };
+  connecting = λ two old homes connections. record { nodes = refl; there = inl refl; back = inl refl };
+  starting = λ two v old there back. record {
+    nodes = refl;
+    there = started old.transfers two.there v two.there_number there;
+    back = started old.transfers two.back v two.back_number back;
+  };
 }
 
 started_ours : (g : Group) (ts : List Transfer) (v : Transfer) (n : ℕ) (t : Transfer) → (g.passes (length ts + 1) ≡ true → IsFresh g v) → g.passes n ≡ true → transfer_at (ts ++ v ∷ []) n ≡ Some t

@@ -6,7 +6,7 @@ use Rattle.couch_http.specs.Reply.{Reply}
 use Rattle.store.specs.Contents.{Contents}
 use Rattle.store.specs.Database.{Database, IsLater}
 use Rattle.node.specs.Runs.{Steps}
-use Rattle.repl.specs.Configuration.{Configuration}
+use Rattle.repl.specs.Configuration.{PassConfiguration}
 use Rattle.repl.specs.Passes.{Asked, Pass, answered_in, asked_of, done, first_pass, lost_in, pass_after, stopped_by, to_source, to_target, with_changes}
 use Rattle.repl.specs.Replies.{Changes, changes_listed}
 use Rattle.repl.specs.Turns.{Turn, after_turn, after_turns, answered, has_listed, lists_at, lists_in, lost}
@@ -14,17 +14,17 @@ use Rattle.repl.specs.declared.phase.Phase.{Phase}
 use Rattle.repl.specs.declared.phase.Phase.TheVariants.{ReadSource, ReadTarget, ListChanges, Compare, Open, Push, WriteSource, WriteTarget, RereadSource, RereadTarget, Done, Stopped}
 use Rattle.repl.specs.declared.why.Why.{Why}
 use Rattle.passes.specs.Owed.{Event, Follows, Goes, IsTruth, Scene, Went, listed_after, others, turn}
-use Rattle.world.specs.Exchanging.{IsAskedBy, IsMadeBy}
+use Rattle.world.specs.Exchanging.{IsAsked, IsCarried, IsMade, Question, question_to_source, question_to_target}
 use Rattle.world.specs.Happening.{Happening, Sight, comes, exchanges}
 use Rattle.passes.proofs.Rounds.{turn_configured}
 use Rattle.world.specs.Keeping.{Keeping}
 use Rattle.world.specs.Network.{Network, Transfer, transfer_at}
-use Rattle.world.specs.Playing.{HappensBy, PlaysBy}
-use Rattle.world.specs.Service.{IsHandled, by_pass}
+use Rattle.world.specs.Playing.{Happens, Plays}
+use Rattle.world.specs.Service.{IsHandled}
 use Rattle.world.specs.declared.fate.Fate.{Fate}
 use Rattle.world.specs.declared.fate.Fate.TheVariants.{Answered, ReplyLost, RequestLost}
-use Rattle.replication.specs.Finished.{Begins, IsTold, database_at, scene_of, source_of, target_of}
-use Rattle.replication.specs.Runs.{turn_of, turns_asked, turns_at, turns_in}
+use Rattle.replication.specs.Finished.{PassBegins, IsTold, database_at, scene_of, source_of, target_of}
+use Rattle.replication.specs.Runs.{turns_asked, turns_at, turns_in}
 use Rattle.replication.proofs.Keepings.{LawfulAt, Nodes, one_event, plays_later, plays_lawful}
 use Rattle.replication.proofs.Places.{one_transfer}
 use Rattle.replication.proofs.Sound.{IsSound, first_sound, lost_sound}
@@ -128,34 +128,45 @@ AreFit p source target (lost ∷ []) = IsSound (after_turn p lost)
 AreFit p source target (x ∷ y ∷ ys) = ⊥
 
 module _ (t : Transfer) where
-  made_fit : (fate : Fate) (old new : Network Contents) (number : ℕ) (u : Transfer) (place : ℕ) (is_to_target : Bool) (m : Message) (seen : List Sight) → IsTold u.pass.configuration
-      → LawfulAt old.nodes → IsSound u.pass
-      → ((r : Reply) (nodes : Nodes) → IsHandled Steps old.nodes place m r nodes → IsHandledFor u (asked_of u.pass) old.nodes r nodes)
-      → (p : IsMadeBy (Keeping t) fate old number u place is_to_target m seen new)
-      → AreFit u.pass (database_at old.nodes u.from u.pass.configuration.source_db) (database_at new.nodes u.to u.pass.configuration.target_db)
-      (turn_of (Keeping t (by_pass number fate)) fate old.nodes place m u.pass p.status p.nodes p.after p.carried ∷ [])
-  made_fit Answered old new number u place is_to_target m seen told lawful sound into p =
-      let c = p.carried in
-      let left : new.nodes ≡ p.nodes = ap (λ (n : Network Contents). n.nodes) p.left in
-      let h = into c.reply new.nodes (subst (λ (xs : Nodes). IsHandled Steps old.nodes place m c.reply xs) (sym left) c.handled.0) in
-      let k = taken_rightly u u.pass.phase u.pass old.nodes new.nodes c.reply told lawful sound h in
-      (k.truth, k.sound)
-  made_fit ReplyLost old new number u place is_to_target m seen told lawful sound into p = lost_sound u.pass sound
-  made_fit RequestLost old new number u place is_to_target m seen told lawful sound into p = lost_sound u.pass sound
+  made_fit : (fate : Fate) (old new : Network Contents) (q : Question) (seen : List Sight) → IsTold q.transfer.pass.configuration → LawfulAt old.nodes → IsSound q.transfer.pass
+      → ((r : Reply) (nodes : Nodes) → IsHandled Steps old.nodes q.place q.message r nodes → IsHandledFor q.transfer (asked_of q.transfer.pass) old.nodes r nodes)
+      → (p : IsMade (Keeping t) fate old q seen new)
+      → AreFit q.transfer.pass (database_at old.nodes q.transfer.from q.transfer.pass.configuration.source_db) (database_at new.nodes q.transfer.to q.transfer.pass.configuration.target_db) (p.turn ∷ [])
+  made_fit fate old new q seen told lawful sound into p = by fate p.turn p.carried
+    where
+      u : Transfer
+      u = q.transfer
+
+      left : new.nodes ≡ p.nodes
+      left = ap (λ (n : Network Contents). n.nodes) p.left
+
+      none : (x : Turn) → x ≡ lost → AreFit u.pass (database_at old.nodes u.from u.pass.configuration.source_db) (database_at new.nodes u.to u.pass.configuration.target_db) (x ∷ [])
+      none x is = subst (λ (y : Turn). AreFit u.pass (database_at old.nodes u.from u.pass.configuration.source_db) (database_at new.nodes u.to u.pass.configuration.target_db) (y ∷ [])) (sym is)
+          (lost_sound u.pass sound)
+
+      by : (f : Fate) (x : Turn) → IsCarried (Keeping t) f old.nodes q x p.nodes
+          → AreFit u.pass (database_at old.nodes u.from u.pass.configuration.source_db) (database_at new.nodes u.to u.pass.configuration.target_db) (x ∷ [])
+      by Answered x c =
+          let h = into c.0 new.nodes (subst (λ (xs : Nodes). IsHandled Steps old.nodes q.place q.message c.0 xs) (sym left) c.1.0) in
+          let k = taken_rightly u u.pass.phase u.pass old.nodes new.nodes c.0 told lawful sound h in
+          subst (λ (y : Turn). AreFit u.pass (database_at old.nodes u.from u.pass.configuration.source_db) (database_at new.nodes u.to u.pass.configuration.target_db) (y ∷ [])) (sym c.2)
+          (k.truth, k.sound)
+      by ReplyLost x c = none x c.2
+      by RequestLost x c = none x c.1
 
   asked_fit : (fate : Fate) (old new : Network Contents) (number : ℕ) (u : Transfer) (asked : Asked) (seen : List Sight) → asked ≡ asked_of u.pass → IsTold u.pass.configuration
-      → LawfulAt old.nodes → IsSound u.pass → (p : IsAskedBy (Keeping t) fate old number u asked seen new)
+      → LawfulAt old.nodes → IsSound u.pass → (p : IsAsked (Keeping t) fate old number u asked seen new)
       → AreFit u.pass (database_at old.nodes u.from u.pass.configuration.source_db) (database_at new.nodes u.to u.pass.configuration.target_db)
       (turns_asked (Keeping t) fate old number u asked seen new p)
   asked_fit fate old new number u (to_source m) seen is told lawful sound p =
-      made_fit fate old new number u u.from false m seen told lawful sound (λ r nodes h. subst (λ (a : Asked). IsHandledFor u a old.nodes r nodes) is h) p
+      made_fit fate old new (question_to_source number u m) seen told lawful sound (λ r nodes h. subst (λ (a : Asked). IsHandledFor u a old.nodes r nodes) is h) p
   asked_fit fate old new number u (to_target m) seen is told lawful sound p =
-      made_fit fate old new number u u.to true m seen told lawful sound (λ r nodes h. subst (λ (a : Asked). IsHandledFor u a old.nodes r nodes) is h) p
+      made_fit fate old new (question_to_target number u m) seen told lawful sound (λ r nodes h. subst (λ (a : Asked). IsHandledFor u a old.nodes r nodes) is h) p
   asked_fit fate old new number u (done s) seen is told lawful sound p = tt
   asked_fit fate old new number u (stopped_by why s) seen is told lawful sound p = tt
 
   pub event_fit : (n : ℕ) (h : Happening) (old new : Network Contents) (seen : List Sight) (p : Pass) → IsTold t.pass.configuration → transfer_at old.transfers n ≡ Some (record t { pass = p })
-      → p.configuration ≡ t.pass.configuration → LawfulAt old.nodes → IsSound p → (run : HappensBy (Keeping t) old h seen new)
+      → p.configuration ≡ t.pass.configuration → LawfulAt old.nodes → IsSound p → (run : Happens (Keeping t) old h seen new)
       → AreFit p (source_of t old) (target_of t new) (turns_at (Keeping t) n h old seen new run)
   event_fit n (comes piece) old new seen p told there same lawful sound run = tt
   event_fit n (exchanges number fate) old new seen p told there same lawful sound run = by (number == n) refl
@@ -174,7 +185,7 @@ module _ (t : Transfer) where
           let at : u ≡ now = one_transfer u now (sym run.there ∙ ap (transfer_at old.transfers) (eqb-true number n is) ∙ there) in
           let config : u.pass.configuration ≡ t.pass.configuration = ap (λ (x : Transfer). x.pass.configuration) at ∙ same in
           let fit = asked_fit fate old new number u (asked_of u.pass) seen refl (subst IsTold (sym config) told) lawful (subst (λ (x : Transfer). IsSound x.pass) (sym at) sound) run.asked in
-          subst (λ (c : Configuration). AreFit p (database_at old.nodes t.from c.source_db) (database_at new.nodes t.to c.target_db) turns) same
+          subst (λ (c : PassConfiguration). AreFit p (database_at old.nodes t.from c.source_db) (database_at new.nodes t.to c.target_db) turns) same
           (subst (λ (x : Transfer). AreFit x.pass (database_at old.nodes x.from x.pass.configuration.source_db) (database_at new.nodes x.to x.pass.configuration.target_db) turns) at fit)
       by false is = tt
 
@@ -195,7 +206,7 @@ goes_more : (es : List Event) (e : Event) (a b c : Scene) → Goes es a b → Fo
 goes_more [] e a b c p f = (c, subst (λ (x : Scene). Follows e x c) p f, refl)
 goes_more (x ∷ es) e a b c (between, here, later) f = (between, here, goes_more es e between b c later f)
 
-went_more : (c : Configuration) (es : List Event) (e : Event) (old new : Scene) → Went c es old → Follows e old new → Went c (es ++ e ∷ []) new
+went_more : (c : PassConfiguration) (es : List Event) (e : Event) (old new : Scene) → Went c es old → Follows e old new → Went c (es ++ e ∷ []) new
 went_more c es e old new w f = record { first = w.first; begins = w.begins; batch = w.batch; goes = goes_more es e w.first old new w.goes f }
 
 next_by : (n : ℕ) (t : Transfer) (old new : Network Contents) (listed : Database) (p : Pass) (ts : List Turn) → Stands n t old listed p → LawfulAt new.nodes
@@ -241,7 +252,7 @@ next_by n t old new listed p (lost ∷ []) s lawful later there fit =
 next_by n t old new listed p (x ∷ y ∷ ys) s lawful later there fit = absurd fit
 
 pub event_stands : (n : ℕ) (t : Transfer) (h : Happening) (old new : Network Contents) (seen : List Sight) (listed : Database) (p : Pass) → IsTold t.pass.configuration
-    → Stands n t old listed p → (run : HappensBy (Keeping t) old h seen new)
+    → Stands n t old listed p → (run : Happens (Keeping t) old h seen new)
     → Stands n t new (listed_by p (source_of t old) listed (turns_at (Keeping t) n h old seen new run)) (after_turns p (turns_at (Keeping t) n h old seen new run))
 event_stands n t h old new seen listed p told s run =
     let one = one_event t h old new seen run in
@@ -279,7 +290,7 @@ kept_both before middle last p xs ys first rest e = by (first both.0) (rest both
     by (inl a) (inl b) = inl (b ∙ a)
 
 pub play_stands : (n : ℕ) (t : Transfer) (hs : List Happening) (old new : Network Contents) (seen : List Sight) (listed : Database) (p : Pass) → IsTold t.pass.configuration
-    → Stands n t old listed p → (run : PlaysBy (Keeping t) old hs seen new) → StandsAfter n t new listed p (turns_in (Keeping t) n hs old seen new run)
+    → Stands n t old listed p → (run : Plays (Keeping t) old hs seen new) → StandsAfter n t new listed p (turns_in (Keeping t) n hs old seen new run)
 play_stands n t [] old new seen listed p told s run =
     record { listed = listed; stands = subst (λ (x : Network Contents). Stands n t x listed p) (sym run.1) s; kept = λ e. inl refl }
 play_stands n t (h ∷ hs) old new seen listed p told s (first, rest, between, here, later, order) =
@@ -301,7 +312,7 @@ begun_batch : (batch : Option ℕ) → IfSome batch (λ size. (1 ≤ size) × (s
 begun_batch None h = tt
 begun_batch (Some size) h = h.0
 
-pub begins_stand : (n : ℕ) (t : Transfer) (start : Network Contents) → Begins n t start → LawfulAt start.nodes → Stands n t start (source_of t start) t.pass
+pub begins_stand : (n : ℕ) (t : Transfer) (start : Network Contents) → PassBegins n t start → LawfulAt start.nodes → Stands n t start (source_of t start) t.pass
 begins_stand n t start b lawful = record {
   there = b.there;
   same = refl;

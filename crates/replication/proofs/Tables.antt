@@ -10,7 +10,7 @@ use Rattle.std.proofs.lemmas.Map.Lookups.{exact_unsigned}
 use Rattle.std.proofs.lemmas.Map.Views.{tells_apart}
 use Rattle.couch_http.specs.Message.{Message}
 use Rattle.couch_http.specs.Stream.{StreamEnd, unfinished, ended, faulty}
-use Rattle.hub.specs.Arrival.{Arrival, ArrivesAt, BringsBehind, Piece, fault_at, fault_on, request_on}
+use Rattle.hub.specs.Arrival.{Arrival, BringsBehind, Piece, fault_at, fault_on, request_on}
 use Rattle.hub.specs.Connections.{ConnectionTable, next_connection, rest_on, was_opened, with_connection, with_rest}
 use Rattle.hub.specs.Endings.{rest_of}
 
@@ -95,25 +95,15 @@ brings_after : (o : Option (List ℕ)) (old : ConnectionTable) (p : Piece) (xs :
 brings_after None old p xs new known b = (b.0, ap with_connection b.1)
 brings_after (Some rest) old p xs new known (ms, end, cut, is, left) = (ms, end, cut, is, ap with_connection left ∙ rest_after old p.conn (rest_of end) known)
 
-brings_many : (o : Option (List ℕ)) (old : ConnectionTable) (p : Piece) (xs : List Arrival) (new : ConnectionTable) → BringsBehind o old p xs new → new.opened ≡ old.opened
+pub brings_many : (o : Option (List ℕ)) (old : ConnectionTable) (p : Piece) (xs : List Arrival) (new : ConnectionTable) → BringsBehind o old p xs new → new.opened ≡ old.opened
 brings_many None old p xs new b = ap (λ (t : ConnectionTable). t.opened) b.1
 brings_many (Some rest) old p xs new (ms, end, cut, is, left) = ap (λ (t : ConnectionTable). t.opened) left ∙ same_many old p.conn (rest_of end)
 
--- of one piece
-pub arrives_after : (old new : ConnectionTable) (p : Piece) (xs : List Arrival) → was_opened old p.conn ≡ true → ArrivesAt old (p ∷ []) xs new → ArrivesAt (with_connection old) (p ∷ []) xs (with_connection new)
-arrives_after old new p xs known (first, others, between, here, later, order) = (
-  first,
-  others,
-  with_connection between,
-  subst (λ (o : Option (List ℕ)). BringsBehind o (with_connection old) p first (with_connection between)) (sym (rest_kept old p.conn known))
-      (brings_after (rest_on old p.conn) old p first between known here),
-  (later.0, ap with_connection later.1),
-  order,
-)
-
-pub arrives_many : (old new : ConnectionTable) (p : Piece) (xs : List Arrival) → ArrivesAt old (p ∷ []) xs new → new.opened ≡ old.opened
-arrives_many old new p xs (first, others, between, here, later, order) =
-    ap (λ (t : ConnectionTable). t.opened) later.1 ∙ brings_many (rest_on old p.conn) old p first between here
+pub arrives_after : (old new : ConnectionTable) (p : Piece) (xs : List Arrival) → was_opened old p.conn ≡ true → BringsBehind (rest_on old p.conn) old p xs new
+    → BringsBehind (rest_on (with_connection old) p.conn) (with_connection old) p xs (with_connection new)
+arrives_after old new p xs known here =
+    subst (λ (o : Option (List ℕ)). BringsBehind o (with_connection old) p xs (with_connection new)) (sym (rest_kept old p.conn known))
+    (brings_after (rest_on old p.conn) old p xs new known here)
 
 -- an arrival is on this connection
 abbrev pub IsOn : ℕ → Arrival → Type 0
@@ -129,14 +119,6 @@ fault_is_on conn (unfinished rest) = tt
 fault_is_on conn ended = tt
 fault_is_on conn (faulty f) = (tt, tt)
 
-brings_on : (o : Option (List ℕ)) (old : ConnectionTable) (p : Piece) (xs : List Arrival) (new : ConnectionTable) → BringsBehind o old p xs new → AllByRecursion (IsOn p.conn) xs
+pub brings_on : (o : Option (List ℕ)) (old : ConnectionTable) (p : Piece) (xs : List Arrival) (new : ConnectionTable) → BringsBehind o old p xs new → AllByRecursion (IsOn p.conn) xs
 brings_on None old p xs new b = subst (AllByRecursion (IsOn p.conn)) (sym b.0) tt
 brings_on (Some rest) old p xs new (ms, end, cut, is, left) = subst (AllByRecursion (IsOn p.conn)) (sym is) (all_on p.conn ms (fault_at p.conn end) (fault_is_on p.conn end))
-
-append_none : (xs : List Arrival) → xs ++ [] ≡ xs
-append_none [] = refl
-append_none (x ∷ xs) = ap (λ zs. x ∷ zs) (append_none xs)
-
-pub arrives_on : (old new : ConnectionTable) (p : Piece) (xs : List Arrival) → ArrivesAt old (p ∷ []) xs new → AllByRecursion (IsOn p.conn) xs
-arrives_on old new p xs (first, others, between, here, later, order) =
-    subst (AllByRecursion (IsOn p.conn)) (sym (order ∙ ap (λ (zs : List Arrival). first ++ zs) later.0 ∙ append_none first)) (brings_on (rest_on old p.conn) old p first between here)

@@ -13,9 +13,9 @@ use Rattle.store.specs.Database.{Database, HasSequences}
 use Rattle.node.specs.Runs.{Steps}
 use Rattle.node.specs.Step.{Serving}
 use Rattle.repl.specs.Calls.{Revisions, compare_revisions, list_changes, open_revisions, push_documents, request_of}
-use Rattle.repl.specs.Configuration.{Configuration}
-use Rattle.repl.specs.Passes.{Asked, Pass, answered_in, asked_by, first_of_pending, step_in, to_source, to_target, done, stopped_by, with_changes, with_differences, with_failures, with_opened, with_source, with_source_reread, with_source_written, with_target, with_target_reread, with_target_written}
-use Rattle.repl.specs.Replies.{Changes, Opened, changes_in, changes_listed, checkpoint_read, checkpoint_written, differences_in, differences_read, documents_pushed, opened_in, revisions_opened}
+use Rattle.repl.specs.Configuration.{PassConfiguration}
+use Rattle.repl.specs.Passes.{Asked, Pass, answered_in, asked_by, first_of_pending, step_in, to_source, to_target, done, stopped_by, with_changes, with_lacking, with_failures, with_opened, with_source, with_source_reread, with_source_written, with_target, with_target_reread, with_target_written}
+use Rattle.repl.specs.Replies.{Changes, Opened, changes_in_reply, changes_listed, checkpoint_read, checkpoint_written, differences_in_reply, differences_read, documents_pushed, opened_in, revisions_opened}
 use Rattle.repl.specs.Shapes.{list_in}
 use Rattle.repl.specs.declared.phase.Phase.{Phase}
 use Rattle.repl.specs.declared.phase.Phase.TheVariants.{ReadSource, ReadTarget, ListChanges, Compare, Open, Push, WriteSource, WriteTarget, RereadSource, RereadTarget, Done, Stopped}
@@ -52,7 +52,7 @@ small_batch (Some n) h = omega (arith, h.1)
 
 -- ---- the four calls whose replies tell of databases
 
-module _ (k : Configuration) (told : IsTold k) (old new : Nodes) where
+module _ (k : PassConfiguration) (told : IsTold k) (old new : Nodes) where
   listing_true : (place since : ℕ) (r : Reply) (c : Changes) → LawfulAt old → since ≤ greatest_count → IsHandled Steps old place (request_of k Source (list_changes since k.batch)) r new
       → changes_listed r.status r.body ≡ fine c → Names (database_at old place k.source_db) since k.batch c
   listing_true place since r c lawful few h e =
@@ -113,14 +113,14 @@ taken_rightly t ListChanges p old new r told lawful sound h =
       truth = names;
       sound = keeps_with with_changes p (changes_listed r.status r.body) sound (λ c e.
           let m = request_of p.configuration Source (list_changes p.since p.configuration.batch) in
-          let s = said_lawfully 200 changes_in h.node.configuration h.node.store m r h.after c (omega arith) h.handled e in
+          let s = said_lawfully 200 changes_in_reply h.node.configuration h.node.store m r h.after c (omega arith) h.handled e in
           changes_sound p c sound (changes_read s.value c s.lawful s.shaped) (names c e).distinct);
     }
 taken_rightly t Compare p old new r told lawful sound h = record {
   truth = λ lacking e. comparison_true p.configuration told old new t.to p.leaves lacking r sound.distinct sound.leaves h e;
-  sound = keeps_with with_differences p (differences_read p.leaves r.status r.body) sound (λ lacking e.
+  sound = keeps_with with_lacking p (differences_read p.leaves r.status r.body) sound (λ lacking e.
       let m = request_of p.configuration Target (compare_revisions p.leaves) in
-      let s = said_lawfully 200 (λ v. differences_in p.leaves v) h.node.configuration h.node.store m r h.after lacking (omega arith) h.handled e in
+      let s = said_lawfully 200 (λ v. differences_in_reply p.leaves v) h.node.configuration h.node.store m r h.after lacking (omega arith) h.handled e in
       differences_sound p lacking sound (differences_texts s.value p.leaves lacking s.lawful sound.leaves s.shaped));
 }
 taken_rightly t Open p old new r told lawful sound h = record {

@@ -1,22 +1,19 @@
 -- Through a run each pass becomes what its turns make of it, and their statuses are seen.
 use Rattle.std.proofs.Common.{◌≡◌, ◌≢◌, ◌∙◌, ◌==◌, ℕ, Bool, true, false, cond, List, [], ◌∷◌, ◌++◌, map, Option, Some, option_map, eqb-true, eq-eqb, refl, sym, ap}
-use Rattle.couch_http.specs.Message.{Message}
-use Rattle.node.specs.Step.{Serving}
 use Rattle.repl.specs.Passes.{Asked, Pass, to_source, to_target, done, stopped_by, asked_of, first_pass}
 use Rattle.repl.specs.Turns.{Turn, after_turn, after_turns}
 use Rattle.repl.proofs.ReportLemmas.{all_told}
 use Rattle.repl.proofs.StartLemmas.{start_is}
 use Rattle.repl.proofs.StopLemmas.{stop_cause}
-use Rattle.world.specs.Exchanging.{IsAskedBy, IsCarriedBy, IsMadeBy}
+use Rattle.world.specs.Exchanging.{IsAsked, IsMade, Question, question_to_source, question_to_target, status_of_turn}
 use Rattle.world.specs.Happening.{Happening, Sight, comes, ended, exchanged, exchanges, replied}
 use Rattle.world.specs.Network.{Network, Transfer, transfer_at}
-use Rattle.world.specs.Playing.{HappensBy, PlaysBy, all_replied}
-use Rattle.world.specs.Service.{Asker, HandlingOf, IsHandled, SeenReply, StepOf, by_pass}
+use Rattle.world.specs.Playing.{Happens, Plays, all_replied}
+use Rattle.world.specs.Service.{Handling, SeenReply, StepOf, alike}
 use Rattle.world.specs.declared.fate.Fate.{Fate}
-use Rattle.world.specs.declared.fate.Fate.TheVariants.{Answered, ReplyLost, RequestLost}
 use Rattle.replication.specs.Courses.{GoesBy, IsArranged, Stage, arranges, runs, turns_by}
-use Rattle.replication.specs.Reported.{PassesGoByTurns, ReportsAreToldInCourses, StartsAreReadInCourses, StopsHaveCausesInCourses, TurnsAreSeen, status_of, statuses_of}
-use Rattle.replication.specs.Runs.{pass_at, turn_of, turns_asked, turns_at, turns_in}
+use Rattle.replication.specs.Reported.{PassesGoByTurns, ReportsAreToldInCourses, StartsAreReadInCourses, StopsHaveCausesInCourses, TurnsAreSeen, statuses_of}
+use Rattle.replication.specs.Runs.{pass_at, turns_asked, turns_at, turns_in}
 use Rattle.replication.proofs.Places.{one_transfer, passed_elsewhere, passed_here}
 use Rattle.replication.proofs.Shapes.{mapped_of}
 
@@ -35,58 +32,43 @@ statuses_join n (exchanged number is_to_target m status ∷ xs) ys = by (number 
     by false rest = rest
 statuses_join n (ended number asked ∷ xs) ys = statuses_join n xs ys
 
-map_join : (xs ys : List Turn) → map status_of (xs ++ ys) ≡ map status_of xs ++ map status_of ys
+map_join : (xs ys : List Turn) → map status_of_turn (xs ++ ys) ≡ map status_of_turn xs ++ map status_of_turn ys
 map_join [] ys = refl
-map_join (x ∷ xs) ys = ap (λ (zs : List ℕ). status_of x ∷ zs) (map_join xs ys)
+map_join (x ∷ xs) ys = ap (λ (zs : List ℕ). status_of_turn x ∷ zs) (map_join xs ys)
 
 none_of_replies : (n : ℕ) (ts : List SeenReply) → statuses_of n (all_replied ts) ≡ []
 none_of_replies n [] = refl
 none_of_replies n (t ∷ ts) = none_of_replies n ts
 
-module _ {S : Type 0} (handling : HandlingOf S) where
+module _ {S : Type 0} (handling : Handling S) where
   -- the pass takes its turn
-  turn_takes : (who : Asker) (fate : Fate) (old : List (Serving S)) (place : ℕ) (m : Message) (before : Pass) (status : ℕ) (new : List (Serving S)) (after : Pass)
-      → (c : IsCarriedBy (handling who) fate old place m before status new after) → after ≡ after_turn before (turn_of (handling who) fate old place m before status new after c)
-  turn_takes who Answered old place m before status new after c = c.outcome.1
-  turn_takes who ReplyLost old place m before status new after c = c.outcome.1
-  turn_takes who RequestLost old place m before status new after c = c.1.1
-
-  turn_shows : (who : Asker) (fate : Fate) (old : List (Serving S)) (place : ℕ) (m : Message) (before : Pass) (status : ℕ) (new : List (Serving S)) (after : Pass)
-      → (c : IsCarriedBy (handling who) fate old place m before status new after) → status_of (turn_of (handling who) fate old place m before status new after c) ≡ status
-  turn_shows who Answered old place m before status new after c = sym c.outcome.0
-  turn_shows who ReplyLost old place m before status new after c = sym c.outcome.0
-  turn_shows who RequestLost old place m before status new after c = sym c.1.0
-
-  made_takes : (fate : Fate) (old new : Network S) (number : ℕ) (t : Transfer) (place : ℕ) (is_to_target : Bool) (m : Message) (seen : List Sight) → transfer_at old.transfers number ≡ Some t
-      → (p : IsMadeBy handling fate old number t place is_to_target m seen new)
-      → transfer_at new.transfers number
-      ≡ Some (record t { pass = after_turn t.pass (turn_of (handling (by_pass number fate)) fate old.nodes place m t.pass p.status p.nodes p.after p.carried) })
-  made_takes fate old new number t place is_to_target m seen there p =
-      ap (λ (n : Network S). transfer_at n.transfers number) p.left
-      ∙ passed_here old.transfers number t (record t { pass = p.after }) there
-      ∙ ap (λ (x : Pass). Some (record t { pass = x })) (turn_takes (by_pass number fate) fate old.nodes place m t.pass p.status p.nodes p.after p.carried)
+  made_takes : (fate : Fate) (old new : Network S) (q : Question) (seen : List Sight) → transfer_at old.transfers q.number ≡ Some q.transfer → (p : IsMade handling fate old q seen new)
+      → transfer_at new.transfers q.number ≡ Some (record q.transfer { pass = after_turn q.transfer.pass p.turn })
+  made_takes fate old new q seen there p =
+      ap (λ (n : Network S). transfer_at n.transfers q.number) p.left
+      ∙ passed_here old.transfers q.number q.transfer (record q.transfer { pass = after_turn q.transfer.pass p.turn }) there
 
   pub asked_takes : (fate : Fate) (old new : Network S) (number : ℕ) (t : Transfer) (asked : Asked) (seen : List Sight) → transfer_at old.transfers number ≡ Some t
-      → (p : IsAskedBy handling fate old number t asked seen new)
+      → (p : IsAsked handling fate old number t asked seen new)
       → transfer_at new.transfers number ≡ Some (record t { pass = after_turns t.pass (turns_asked handling fate old number t asked seen new p) })
-  asked_takes fate old new number t (to_source m) seen there p = made_takes fate old new number t t.from false m seen there p
-  asked_takes fate old new number t (to_target m) seen there p = made_takes fate old new number t t.to true m seen there p
+  asked_takes fate old new number t (to_source m) seen there p = made_takes fate old new (question_to_source number t m) seen there p
+  asked_takes fate old new number t (to_target m) seen there p = made_takes fate old new (question_to_target number t m) seen there p
   asked_takes fate old new number t (done s) seen there p = ap (λ (n : Network S). transfer_at n.transfers number) p.1 ∙ there
   asked_takes fate old new number t (stopped_by why s) seen there p = ap (λ (n : Network S). transfer_at n.transfers number) p.1 ∙ there
 
-  made_elsewhere : (fate : Fate) (old new : Network S) (number n : ℕ) (t : Transfer) (place : ℕ) (is_to_target : Bool) (m : Message) (seen : List Sight) → n ≢ number
-      → IsMadeBy handling fate old number t place is_to_target m seen new → transfer_at new.transfers n ≡ transfer_at old.transfers n
-  made_elsewhere fate old new number n t place is_to_target m seen apart p =
-      ap (λ (x : Network S). transfer_at x.transfers n) p.left ∙ passed_elsewhere old.transfers number n (record t { pass = p.after }) apart
+  made_elsewhere : (fate : Fate) (old new : Network S) (n : ℕ) (q : Question) (seen : List Sight) → n ≢ q.number
+      → IsMade handling fate old q seen new → transfer_at new.transfers n ≡ transfer_at old.transfers n
+  made_elsewhere fate old new n q seen apart p =
+      ap (λ (x : Network S). transfer_at x.transfers n) p.left ∙ passed_elsewhere old.transfers q.number n (record q.transfer { pass = after_turn q.transfer.pass p.turn }) apart
 
   pub asked_elsewhere : (fate : Fate) (old new : Network S) (number n : ℕ) (t : Transfer) (asked : Asked) (seen : List Sight) → n ≢ number
-      → IsAskedBy handling fate old number t asked seen new → transfer_at new.transfers n ≡ transfer_at old.transfers n
-  asked_elsewhere fate old new number n t (to_source m) seen apart p = made_elsewhere fate old new number n t t.from false m seen apart p
-  asked_elsewhere fate old new number n t (to_target m) seen apart p = made_elsewhere fate old new number n t t.to true m seen apart p
+      → IsAsked handling fate old number t asked seen new → transfer_at new.transfers n ≡ transfer_at old.transfers n
+  asked_elsewhere fate old new number n t (to_source m) seen apart p = made_elsewhere fate old new n (question_to_source number t m) seen apart p
+  asked_elsewhere fate old new number n t (to_target m) seen apart p = made_elsewhere fate old new n (question_to_target number t m) seen apart p
   asked_elsewhere fate old new number n t (done s) seen apart p = ap (λ (x : Network S). transfer_at x.transfers n) p.1
   asked_elsewhere fate old new number n t (stopped_by why s) seen apart p = ap (λ (x : Network S). transfer_at x.transfers n) p.1
 
-  pub event_takes : (n : ℕ) (h : Happening) (old : Network S) (seen : List Sight) (new : Network S) (t : Transfer) → transfer_at old.transfers n ≡ Some t → (p : HappensBy handling old h seen new)
+  pub event_takes : (n : ℕ) (h : Happening) (old : Network S) (seen : List Sight) (new : Network S) (t : Transfer) → transfer_at old.transfers n ≡ Some t → (p : Happens handling old h seen new)
       → transfer_at new.transfers n ≡ Some (record t { pass = after_turns t.pass (turns_at handling n h old seen new p) })
   event_takes n (comes piece) old seen new t there p = ap (λ (ts : List Transfer). transfer_at ts n) p.1.transfers ∙ there
   event_takes n (exchanges number fate) old seen new t there p = by (number == n) refl
@@ -105,7 +87,7 @@ module _ {S : Type 0} (handling : HandlingOf S) where
           asked_elsewhere fate old new number n p.transfer (asked_of p.transfer.pass) seen
           (λ e. let k : true ≡ false = sym (eq-eqb number n (sym e)) ∙ is in cc) p.asked ∙ there
 
-  pub plays_take : (n : ℕ) (hs : List Happening) (old : Network S) (seen : List Sight) (new : Network S) (t : Transfer) → transfer_at old.transfers n ≡ Some t → (p : PlaysBy handling old hs seen new)
+  pub plays_take : (n : ℕ) (hs : List Happening) (old : Network S) (seen : List Sight) (new : Network S) (t : Transfer) → transfer_at old.transfers n ≡ Some t → (p : Plays handling old hs seen new)
       → transfer_at new.transfers n ≡ Some (record t { pass = after_turns t.pass (turns_in handling n hs old seen new p) })
   plays_take n [] old seen new t there p = ap (λ (x : Network S). transfer_at x.transfers n) p.1 ∙ there
   plays_take n (h ∷ hs) old seen new t there (first, others, between, here, later, order) =
@@ -115,50 +97,46 @@ module _ {S : Type 0} (handling : HandlingOf S) where
 
   -- ---- what is seen
 
-  made_shows : (fate : Fate) (old new : Network S) (number n : ℕ) (t : Transfer) (place : ℕ) (is_to_target : Bool) (m : Message) (seen : List Sight)
-      → (p : IsMadeBy handling fate old number t place is_to_target m seen new)
-      → statuses_of n seen ≡ map status_of (cond (number == n) (turn_of (handling (by_pass number fate)) fate old.nodes place m t.pass p.status p.nodes p.after p.carried ∷ []) [])
-  made_shows fate old new number n t place is_to_target m seen p = ap (statuses_of n) p.sight ∙ by (number == n)
+  made_shows : (fate : Fate) (old new : Network S) (n : ℕ) (q : Question) (seen : List Sight) (p : IsMade handling fate old q seen new)
+      → statuses_of n seen ≡ map status_of_turn (cond (q.number == n) (p.turn ∷ []) [])
+  made_shows fate old new n q seen p = ap (statuses_of n) p.sight ∙ by (q.number == n)
     where
-      turn : Turn
-      turn = turn_of (handling (by_pass number fate)) fate old.nodes place m t.pass p.status p.nodes p.after p.carried
-
-      by : (b : Bool) → cond b (p.status ∷ []) [] ≡ map status_of (cond b (turn ∷ []) [])
-      by true = ap (λ (k : ℕ). k ∷ []) (sym (turn_shows (by_pass number fate) fate old.nodes place m t.pass p.status p.nodes p.after p.carried))
+      by : (b : Bool) → cond b (status_of_turn p.turn ∷ []) [] ≡ map status_of_turn (cond b (p.turn ∷ []) [])
+      by true = refl
       by false = refl
 
-  asked_shows : (fate : Fate) (old new : Network S) (number n : ℕ) (t : Transfer) (asked : Asked) (seen : List Sight) → (p : IsAskedBy handling fate old number t asked seen new)
-      → statuses_of n seen ≡ map status_of (cond (number == n) (turns_asked handling fate old number t asked seen new p) [])
-  asked_shows fate old new number n t (to_source m) seen p = made_shows fate old new number n t t.from false m seen p
-  asked_shows fate old new number n t (to_target m) seen p = made_shows fate old new number n t t.to true m seen p
+  asked_shows : (fate : Fate) (old new : Network S) (number n : ℕ) (t : Transfer) (asked : Asked) (seen : List Sight) → (p : IsAsked handling fate old number t asked seen new)
+      → statuses_of n seen ≡ map status_of_turn (cond (number == n) (turns_asked handling fate old number t asked seen new p) [])
+  asked_shows fate old new number n t (to_source m) seen p = made_shows fate old new n (question_to_source number t m) seen p
+  asked_shows fate old new number n t (to_target m) seen p = made_shows fate old new n (question_to_target number t m) seen p
   asked_shows fate old new number n t (done s) seen p = ap (statuses_of n) p.0 ∙ none (number == n)
     where
-      none : (b : Bool) → [] ≡ map status_of (cond b [] [])
+      none : (b : Bool) → [] ≡ map status_of_turn (cond b [] [])
       none true = refl
       none false = refl
   asked_shows fate old new number n t (stopped_by why s) seen p = ap (statuses_of n) p.0 ∙ none (number == n)
     where
-      none : (b : Bool) → [] ≡ map status_of (cond b [] [])
+      none : (b : Bool) → [] ≡ map status_of_turn (cond b [] [])
       none true = refl
       none false = refl
 
-  event_shows : (n : ℕ) (h : Happening) (old : Network S) (seen : List Sight) (new : Network S) (p : HappensBy handling old h seen new)
-      → statuses_of n seen ≡ map status_of (turns_at handling n h old seen new p)
+  event_shows : (n : ℕ) (h : Happening) (old : Network S) (seen : List Sight) (new : Network S) (p : Happens handling old h seen new)
+      → statuses_of n seen ≡ map status_of_turn (turns_at handling n h old seen new p)
   event_shows n (comes piece) old seen new p = ap (statuses_of n) p.2 ∙ none_of_replies n p.0
   event_shows n (exchanges number fate) old seen new p = asked_shows fate old new number n p.transfer (asked_of p.transfer.pass) seen p.asked
 
-  plays_show : (n : ℕ) (hs : List Happening) (old : Network S) (seen : List Sight) (new : Network S) (p : PlaysBy handling old hs seen new)
-      → statuses_of n seen ≡ map status_of (turns_in handling n hs old seen new p)
+  plays_show : (n : ℕ) (hs : List Happening) (old : Network S) (seen : List Sight) (new : Network S) (p : Plays handling old hs seen new)
+      → statuses_of n seen ≡ map status_of_turn (turns_in handling n hs old seen new p)
   plays_show n [] old seen new p = ap (statuses_of n) p.0
   plays_show n (h ∷ hs) old seen new (first, others, between, here, later, order) =
       ap (statuses_of n) order ∙ statuses_join n first others
       ∙ ap (λ (zs : List ℕ). zs ++ statuses_of n others) (event_shows n h old first between here)
-      ∙ ap (λ (zs : List ℕ). map status_of (turns_at handling n h old first between here) ++ zs) (plays_show n hs between others new later)
+      ∙ ap (λ (zs : List ℕ). map status_of_turn (turns_at handling n h old first between here) ++ zs) (plays_show n hs between others new later)
       ∙ sym (map_join (turns_at handling n h old first between here) (turns_in handling n hs between others new later))
 
 -- ---- the pass itself
 
-pub passes_go : {S : Type 0} (handling : HandlingOf S) (n : ℕ) (hs : List Happening) (old : Network S) (seen : List Sight) (new : Network S) (run : PlaysBy handling old hs seen new) (p : Pass)
+pub passes_go : {S : Type 0} (handling : Handling S) (n : ℕ) (hs : List Happening) (old : Network S) (seen : List Sight) (new : Network S) (run : Plays handling old hs seen new) (p : Pass)
     → pass_at old.transfers n ≡ Some p → pass_at new.transfers n ≡ Some (after_turns p (turns_in handling n hs old seen new run))
 passes_go handling n hs old seen new run p e =
     let m = mapped_of (λ (t : Transfer). t.pass) (transfer_at old.transfers n) p e in
@@ -178,8 +156,8 @@ pub passes_along : {S : Type 0} (step : StepOf S) (n : ℕ) (ss : List Stage) (o
     → pass_at new.transfers n ≡ Some (after_turns p (turns_by step n ss old new g))
 passes_along {S} step n [] old new g p e = ap (λ (x : Network S). pass_at x.transfers n) g ∙ e
 passes_along step n (runs ∷ ss) old new (between, run, rest) p e =
-    let ts = turns_in (λ who. IsHandled step) n run.happenings old run.seen between run.played in
-    passes_along step n ss between new rest (after_turns p ts) (passes_go (λ who. IsHandled step) n run.happenings old run.seen between run.played p e)
+    let ts = turns_in (alike step) n run.happenings old run.seen between run.played in
+    passes_along step n ss between new rest (after_turns p ts) (passes_go (alike step) n run.happenings old run.seen between run.played p e)
     ∙ ap (λ (x : Pass). Some x) (sym (turns_join p ts (turns_by step n ss between new rest)))
 passes_along step n (arranges ∷ ss) old new (between, arranged, rest) p e = passes_along step n ss between new rest p (pass_arranged old between n p arranged e)
 
@@ -188,7 +166,7 @@ module _ {S : Type 0} (step : StepOf S) where
   go_by_turns n old new course p e = passes_along step n course.stages old new course.goes p e
 
   pub are_seen : TurnsAreSeen step
-  are_seen n old new run = plays_show (λ who. IsHandled step) n run.happenings old run.seen new run.played
+  are_seen n old new run = plays_show (alike step) n run.happenings old run.seen new run.played
 
   pub told_in_courses : ReportsAreToldInCourses step
   told_in_courses n c old new course p e f =

@@ -14,11 +14,11 @@ use Rattle.repl.specs.declared.phase.Phase.{Phase}
 use Rattle.repl.specs.declared.phase.Phase.TheVariants.{ReadSource, ReadTarget, ListChanges, Compare, Open, Push, WriteSource, WriteTarget, RereadSource, RereadTarget, Done, Stopped}
 use Rattle.repl.specs.declared.side.Side.TheVariants.{Source, Target}
 use Rattle.passes.specs.Owed.{IsTruth, SaysTruth, Scene, listed_after}
-use Rattle.world.specs.Exchanging.{IsAskedBy, IsCarriedBy, IsMadeBy}
+use Rattle.world.specs.Exchanging.{IsAsked, IsCarried, IsMade, Question}
 use Rattle.world.specs.Happening.{Sight}
 use Rattle.world.specs.Keeping.{StaysAt}
 use Rattle.world.specs.Network.{Network, Transfer, with_transfer}
-use Rattle.world.specs.Service.{Asker, HandlingOf, IsHandled, by_pass}
+use Rattle.world.specs.Service.{Asker, Handling, IsHandled, by_pass}
 use Rattle.world.specs.declared.fate.Fate.{Fate}
 use Rattle.world.specs.declared.fate.Fate.TheVariants.{Answered, ReplyLost, RequestLost}
 use Rattle.replication.specs.Finished.{IsTold, database_at}
@@ -80,7 +80,7 @@ lost_shown RereadTarget p source = tt
 lost_shown Done p source = tt
 lost_shown (Stopped why) p source = tt
 
-module _ (handling : HandlingOf Contents) (handled : (who : Asker) (old : Nodes) (place : ℕ) (m : Message) (r : Reply) (new : Nodes) → handling who old place m r new → IsHandled Steps old place m r new)
+module _ (handling : Handling Contents) (handled : (who : Asker) (old : Nodes) (place : ℕ) (m : Message) (r : Reply) (new : Nodes) → handling who old place m r new → IsHandled Steps old place m r new)
     (fate : Fate) (old new : Network Contents) (number : ℕ) (x : Transfer) (seen : List Sight) (told : IsTold x.pass.configuration)
     (apart : x.from ≡ x.to → x.pass.configuration.source_db ≢ x.pass.configuration.target_db) (lawful : LawfulAt old.nodes) (sound : IsSound x.pass) where
   -- a request that is made at a place
@@ -88,57 +88,55 @@ module _ (handling : HandlingOf Contents) (handled : (who : Asker) (old : Nodes)
       → ((r : Reply) (nodes : Nodes) → IsHandled Steps old.nodes place m r nodes → IsHandledFor x (asked_by x.pass (step_in f x.pass)) old.nodes r nodes)
       → ((r : Reply) (nodes : Nodes) → IsHandled Steps old.nodes place m r nodes → BothBecome x x.pass.configuration (pushed_in f x.pass) old.nodes nodes)
       → ((r : Reply) (nodes : Nodes) → IsHandled Steps old.nodes place m r nodes → BringsShown f x.pass (database_at old.nodes x.from x.pass.configuration.source_db) (answered r.status r.body))
-      → IsMadeBy handling fate old number x place is_to_target m seen new → HasTurn number x f x.pass old new
-  made f place is_to_target m into effect shown i = by fate i.carried
+      → IsMade handling fate old (record { number = number; transfer = x; place = place; is_to_target = is_to_target; message = m }) seen new → HasTurn number x f x.pass old new
+  made f place is_to_target m into effect shown i = by fate i.turn i.carried transfers_are
     where
+      q : Question
+      q = record { number = number; transfer = x; place = place; is_to_target = is_to_target; message = m }
+
       nodes_are : new.nodes ≡ i.nodes
       nodes_are = ap (λ (n : Network Contents). n.nodes) i.left
 
-      transfers_are : new.transfers ≡ with_transfer old.transfers number (record x { pass = i.after })
+      transfers_are : new.transfers ≡ with_transfer old.transfers number (record x { pass = after_turn x.pass i.turn })
       transfers_are = ap (λ (n : Network Contents). n.transfers) i.left
 
       to_new : (r : Reply) → IsHandled Steps old.nodes place m r i.nodes → IsHandled Steps old.nodes place m r new.nodes
       to_new r h = subst (λ (n : Nodes). IsHandled Steps old.nodes place m r n) (sym nodes_are) h
 
-      by : (g : Fate) → IsCarriedBy (handling (by_pass number fate)) g old.nodes place m x.pass i.status i.nodes i.after → HasTurn number x f x.pass old new
-      by Answered c =
-          let h = to_new c.reply (handled (by_pass number fate) old.nodes place m c.reply i.nodes c.handled) in
-          let right = taken_rightly x f x.pass old.nodes new.nodes c.reply told lawful sound (into c.reply new.nodes h) in
-          record {
-            turn = answered c.reply.status c.reply.body;
-            after = i.after;
-            is = c.outcome.1;
-            transfers = transfers_are;
-            both = effect c.reply new.nodes h;
-            sound = right.sound;
-            truth = right.truth;
-            shown = shown c.reply new.nodes h;
-          }
-      by ReplyLost c =
-          let h = to_new c.reply (handled (by_pass number fate) old.nodes place m c.reply i.nodes c.handled) in
-          record {
-            turn = lost;
-            after = i.after;
-            is = c.outcome.1;
-            transfers = transfers_are;
-            both = effect c.reply new.nodes h;
-            sound = lost_sound x.pass sound;
-            truth = tt;
-            shown = lost_shown f x.pass (database_at old.nodes x.from x.pass.configuration.source_db);
-          }
-      by RequestLost c = record {
+      -- what was lost, by what became of the nodes
+      without : (t : Turn) → t ≡ lost → new.transfers ≡ with_transfer old.transfers number (record x { pass = after_turn x.pass t })
+          → BothBecome x x.pass.configuration (pushed_in f x.pass) old.nodes new.nodes → HasTurn number x f x.pass old new
+      without t is transfers both = record {
         turn = lost;
-        after = i.after;
-        is = c.1.1;
-        transfers = transfers_are;
-        both = unchanged x f x.pass old.nodes new.nodes (nodes_are ∙ c.0);
+        after = after_turn x.pass t;
+        is = ap (after_turn x.pass) is;
+        transfers = transfers;
+        both = both;
         sound = lost_sound x.pass sound;
         truth = tt;
         shown = lost_shown f x.pass (database_at old.nodes x.from x.pass.configuration.source_db);
       }
 
+      by : (g : Fate) (t : Turn) → IsCarried handling g old.nodes q t i.nodes → new.transfers ≡ with_transfer old.transfers number (record x { pass = after_turn x.pass t })
+          → HasTurn number x f x.pass old new
+      by Answered t c transfers =
+          let h = to_new c.0 (handled (by_pass number Answered) old.nodes place m c.0 i.nodes c.1) in
+          let right = taken_rightly x f x.pass old.nodes new.nodes c.0 told lawful sound (into c.0 new.nodes h) in
+          record {
+            turn = answered c.0.status c.0.body;
+            after = after_turn x.pass t;
+            is = ap (after_turn x.pass) c.2;
+            transfers = transfers;
+            both = effect c.0 new.nodes h;
+            sound = right.sound;
+            truth = right.truth;
+            shown = shown c.0 new.nodes h;
+          }
+      by ReplyLost t c transfers = without t c.2 transfers (effect c.0 new.nodes (to_new c.0 (handled (by_pass number ReplyLost) old.nodes place m c.0 i.nodes c.1)))
+      by RequestLost t c transfers = without t c.1 transfers (unchanged x f x.pass old.nodes new.nodes (nodes_are ∙ c.0))
+
   -- a call that pushes nothing and opens nothing
-  pub turned : (f : Phase) → IsAskedBy handling fate old number x (asked_by x.pass (step_in f x.pass)) seen new → (new ≡ old) ⊎ HasTurn number x f x.pass old new
+  pub turned : (f : Phase) → IsAsked handling fate old number x (asked_by x.pass (step_in f x.pass)) seen new → (new ≡ old) ⊎ HasTurn number x f x.pass old new
   turned ReadSource i =
       let k = x.pass.configuration in
       inr (made ReadSource x.from false (request_of k Source (read_checkpoint (checkpoint_id k))) (λ r nodes h. h)

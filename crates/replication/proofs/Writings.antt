@@ -3,9 +3,9 @@ use Rattle.std.proofs.Common.{◌≡◌, ◌⊎◌, ◌≤◌, ℕ, zero, suc, B
 use Rattle.std.specs.Prelude.{is_some, option_and_then}
 use Rattle.std.specs.FinMap.{find, get}
 use Rattle.std.specs.Ordering.{eq_by_cmp}
-use Rattle.tree.specs.History.{HistoryContent, IsRooted, chain, held_of, is_known, line, onward, parent_of, path_entries, with_write, write_entries}
+use Rattle.tree.specs.History.{HistoryContent, IsRooted, chain, held_of, is_known, path_from, onward, parent_of, path_entries, with_write, write_entries}
 use Rattle.tree.specs.Revision.{Revision, revision_cmp}
-use Rattle.tree.specs.Write.{Write, head, held_by}
+use Rattle.tree.specs.Write.{Write, head, held_of_write}
 use Rattle.tree.specs.declared.entry.Entry.{Entry}
 use Rattle.tree.specs.declared.entry.Held.{Held}
 use Rattle.tree.proofs.Contents.{entry_after_write, entry_kept}
@@ -31,12 +31,12 @@ pub record IsOf (k : HistoryContent) (r : Revision) (d : Option Held) (s : Revis
   pub parent : e.parent ≡ parent_of k s
   pub held : (g : Held) → e.held ≡ Some g → (s ≡ r) × (d ≡ Some g)
 
-first_of_line : (k : HistoryContent) (n : ℕ) (p : Revision) → is_known k p ≡ true → 1 ≤ n → head (line k n p) ≡ Some p
+first_of_line : (k : HistoryContent) (n : ℕ) (p : Revision) → is_known k p ≡ true → 1 ≤ n → head (path_from k n p) ≡ Some p
 first_of_line k zero p known some = absurd (omega (arith, some))
 first_of_line k (suc n) p known some = ap head (line_on k n p known)
 
 line_says : (k : HistoryContent) → IsRooted k → (n : ℕ) (r : Revision) (d : Option Held) → r.number ≡ n → (s : Revision) (e : Entry)
-    → find revision_cmp s (path_entries d (line k n r)) ≡ Some e → IsOf k r d s e
+    → find revision_cmp s (path_entries d (path_from k n r)) ≡ Some e → IsOf k r d s e
 line_says k root zero r d is s e found = absurd cc
 line_says k root (suc n) r d is s e found = known_or_not (λ p near f. line_says k root n p None near s e f) (is_known k r) refl
   where
@@ -56,18 +56,18 @@ line_says k root (suc n) r d is s e found = known_or_not (λ p near f. line_says
         }
     here up rest known is_up first later false t f = later f
 
-    up_or_root : ((p : Revision) → p.number ≡ n → find revision_cmp s (path_entries None (line k n p)) ≡ Some e → IsOf k p None s e)
-        → is_known k r ≡ true → (o : Option Revision) → parent_of k r ≡ o → find revision_cmp s (path_entries d (r ∷ onward (λ p. line k n p) o)) ≡ Some e → IsOf k r d s e
+    up_or_root : ((p : Revision) → p.number ≡ n → find revision_cmp s (path_entries None (path_from k n p)) ≡ Some e → IsOf k p None s e)
+        → is_known k r ≡ true → (o : Option Revision) → parent_of k r ≡ o → find revision_cmp s (path_entries d (r ∷ onward (λ p. path_from k n p) o)) ≡ Some e → IsOf k r d s e
     up_or_root rest known None up f = here None [] known up refl (λ g. absurd cc) (eq_by_cmp revision_cmp s r) refl f
     up_or_root rest known (Some p) up f =
         let below : p.number ≡ n = omega (arith, is, root.descends r p up) in
         let there = root.parents_known r p up in
         let first = first_of_line k n p there (omega (arith, below, positive k root p there)) in
-        here (Some p) (line k n p) known up first
+        here (Some p) (path_from k n p) known up first
         (λ g. let k = rest p below g in record { known = k.known; parent = k.parent; held = λ x h. absurd (let z : None ≡ Some x = (k.held x h).1 in cc) })
         (eq_by_cmp revision_cmp s r) refl f
 
-    known_or_not : ((p : Revision) → p.number ≡ n → find revision_cmp s (path_entries None (line k n p)) ≡ Some e → IsOf k p None s e)
+    known_or_not : ((p : Revision) → p.number ≡ n → find revision_cmp s (path_entries None (path_from k n p)) ≡ Some e → IsOf k p None s e)
         → (b : Bool) → is_known k r ≡ b → IsOf k r d s e
     known_or_not rest true known = up_or_root rest known (parent_of k r) refl (ap (λ (path : List Revision). find revision_cmp s (path_entries d path)) (sym (line_on k n r known)) ∙ found)
     known_or_not rest false new = absurd (let z : None ≡ Some e = ap (λ (path : List Revision). find revision_cmp s (path_entries d path)) (sym (line_off k (suc n) r new)) ∙ found in cc)
@@ -77,25 +77,25 @@ line_says k root (suc n) r d is s e found = known_or_not (λ p near f. line_says
 -- the path is that of a revision there, and what it brings is what is held there
 pub record IsCopied (k : HistoryContent) (r : Revision) (w : Write) : Type 0 where
   pub path : chain k r ≡ Some w.path
-  pub held : held_of k r ≡ Some (held_by w)
+  pub held : held_of k r ≡ Some (held_of_write w)
 
-chained : (k : HistoryContent) (r : Revision) (path : List Revision) → chain k r ≡ Some path → path ≡ line k r.number r
+chained : (k : HistoryContent) (r : Revision) (path : List Revision) → chain k r ≡ Some path → path ≡ path_from k r.number r
 chained k r path e = by (is_known k r) e
   where
-    by : (b : Bool) → cond b (Some (line k r.number r)) None ≡ Some path → path ≡ line k r.number r
-    by true f = sym (inside (line k r.number r) path f)
+    by : (b : Bool) → cond b (Some (path_from k r.number r)) None ≡ Some path → path ≡ path_from k r.number r
+    by true f = sym (inside (path_from k r.number r) path f)
     by false f = absurd cc
 
 -- what a write says of a revision, where it says anything, is what its source says
-copied_says : (k : HistoryContent) (r : Revision) (w : Write) → IsRooted k → IsCopied k r w → (s : Revision) (e : Entry) → find revision_cmp s (write_entries w) ≡ Some e → IsOf k r (Some (held_by w)) s e
+copied_says : (k : HistoryContent) (r : Revision) (w : Write) → IsRooted k → IsCopied k r w → (s : Revision) (e : Entry) → find revision_cmp s (write_entries w) ≡ Some e → IsOf k r (Some (held_of_write w)) s e
 copied_says k r w root c s e f =
-    line_says k root r.number r (Some (held_by w)) refl s e
-    (ap (λ (path : List Revision). find revision_cmp s (path_entries (Some (held_by w)) path)) (sym (chained k r w.path c.path)) ∙ f)
+    line_says k root r.number r (Some (held_of_write w)) refl s e
+    (ap (λ (path : List Revision). find revision_cmp s (path_entries (Some (held_of_write w)) path)) (sym (chained k r w.path c.path)) ∙ f)
 
 -- what is known of a revision after a write: what was known, or what the source of the write says
 pub data IsThere (k h : HistoryContent) (r : Revision) (w : Write) (s : Revision) : Type 0 where
   before : is_known h s ≡ true → get (with_write h w) s ≡ get h s → IsThere k h r w s
-  brought : (e : Entry) → get (with_write h w) s ≡ Some e → IsOf k r (Some (held_by w)) s e → IsThere k h r w s
+  brought : (e : Entry) → get (with_write h w) s ≡ Some e → IsOf k r (Some (held_of_write w)) s e → IsThere k h r w s
 
 pub known_there : (k h : HistoryContent) (r : Revision) (w : Write) → IsRooted k → IsCopied k r w → (s : Revision) → is_known (with_write h w) s ≡ true → IsThere k h r w s
 known_there k h r w root c s known = by (is_known h s) refl
@@ -138,8 +138,8 @@ agrees_on k h r w root c agrees = record {
     held s d e in_k in_h (before is g) = agrees.held s d e in_k (ap held_in (sym g) ∙ in_h)
     held s d e in_k in_h (brought x g of) =
         let b = of.held e (ap held_in (sym g) ∙ in_h) in
-        let both : Some d ≡ Some (held_by w) = sym in_k ∙ ap (held_of k) b.0 ∙ c.held in
-        let last : Some (held_by w) ≡ Some e = b.1 in
+        let both : Some d ≡ Some (held_of_write w) = sym in_k ∙ ap (held_of k) b.0 ∙ c.held in
+        let last : Some (held_of_write w) ≡ Some e = b.1 in
         inside d e (both ∙ last)
 
 -- what is known after it was known before, or its source knows it
@@ -174,22 +174,22 @@ kept_known old new keeps r known = ap is_some (keeps r known) ∙ known
 pub kept_parent : (old new : HistoryContent) → Keeps old new → (r : Revision) → is_known old r ≡ true → parent_of new r ≡ parent_of old r
 kept_parent old new keeps r known = ap parent_in (keeps r known)
 
-kept_line : (old new : HistoryContent) → IsRooted old → Keeps old new → (n : ℕ) (r : Revision) → is_known old r ≡ true → line new n r ≡ line old n r
+kept_line : (old new : HistoryContent) → IsRooted old → Keeps old new → (n : ℕ) (r : Revision) → is_known old r ≡ true → path_from new n r ≡ path_from old n r
 kept_line old new root keeps zero r known = refl
 kept_line old new root keeps (suc n) r known =
     line_on new n r (kept_known old new keeps r known)
-    ∙ ap (λ (o : Option Revision). r ∷ onward (λ p. line new n p) o) (kept_parent old new keeps r known)
+    ∙ ap (λ (o : Option Revision). r ∷ onward (λ p. path_from new n p) o) (kept_parent old new keeps r known)
     ∙ ap (λ (rest : List Revision). r ∷ rest) (next (λ p is. kept_line old new root keeps n p is) (parent_of old r) refl)
     ∙ sym (line_on old n r known)
   where
-    next : ((p : Revision) → is_known old p ≡ true → line new n p ≡ line old n p) → (o : Option Revision) → parent_of old r ≡ o
-        → onward (λ p. line new n p) o ≡ onward (λ p. line old n p) o
+    next : ((p : Revision) → is_known old p ≡ true → path_from new n p ≡ path_from old n p) → (o : Option Revision) → parent_of old r ≡ o
+        → onward (λ p. path_from new n p) o ≡ onward (λ p. path_from old n p) o
     next rest None up = refl
     next rest (Some p) up = rest p (root.parents_known r p up)
 
 -- the path of a known revision stays
 pub kept_chain : (old new : HistoryContent) → IsRooted old → Keeps old new → (r : Revision) → is_known old r ≡ true → chain new r ≡ chain old r
 kept_chain old new root keeps r known =
-    ap (λ (b : Bool). cond b (Some (line new r.number r)) None) (kept_known old new keeps r known)
+    ap (λ (b : Bool). cond b (Some (path_from new r.number r)) None) (kept_known old new keeps r known)
     ∙ ap Some (kept_line old new root keeps r.number r known)
-    ∙ sym (ap (λ (b : Bool). cond b (Some (line old r.number r)) None) known)
+    ∙ sym (ap (λ (b : Bool). cond b (Some (path_from old r.number r)) None) known)

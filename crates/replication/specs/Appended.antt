@@ -5,7 +5,7 @@ use Rattle.std.specs.List.{AllByRecursion}
 use Rattle.couch_json.specs.Value.{Value}
 use Rattle.tree.specs.History.{chain, held_of}
 use Rattle.tree.specs.Revision.{Revision}
-use Rattle.tree.specs.Write.{held_by}
+use Rattle.tree.specs.Write.{held_of_write}
 use Rattle.store.specs.Contents.{AreAcceptable}
 use Rattle.store.specs.Database.{Database, DocumentWrite, IsKnownAt, history_at, with_all}
 use Rattle.read.specs.Shown.{shown_document}
@@ -50,7 +50,7 @@ pub record IsShownBy (db : Database) (id : List ℕ) (v : Value) : Type 0 where
 pub record ComesFrom (db : Database) (w : DocumentWrite) : Type 0 where
   pub rev : Revision
   pub path : chain (history_at db w.id) rev ≡ Some w.write.path
-  pub held : held_of (history_at db w.id) rev ≡ Some (held_by w.write)
+  pub held : held_of (history_at db w.id) rev ≡ Some (held_of_write w.write)
 
 -- A database after writes from a source: it is sound, and agrees with the source. Whatever it knows now it knew before, or the source knows it.
 pub record IsReplica (source old new : Database) : Type 0 where

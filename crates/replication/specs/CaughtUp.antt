@@ -11,11 +11,11 @@ use Rattle.repl.specs.Passes.{Pass}
 use Rattle.repl.specs.declared.phase.Phase.TheVariants.{Done}
 use Rattle.world.specs.Network.{Network, Transfer}
 use Rattle.replication.specs.Courses.{Course, requests_through}
-use Rattle.replication.specs.Finished.{Begins, database_at}
-use Rattle.replication.specs.Requests.{AreKept}
+use Rattle.replication.specs.Finished.{PassBegins, database_at}
+use Rattle.replication.specs.Requests.{DatabasesStay}
 use Rattle.replication.specs.Runs.{pass_at}
 use Rattle.replication.specs.Groups.{Group, GroupCourse, IsInAgreement, IsReady}
-use Rattle.replication.specs.Networks.{Stage}
+use Rattle.replication.specs.Networks.{QuietStage}
 use Rattle.replication.specs.Ways.{HaveSameTrees, IsWay}
 
 -- a database of a network: the number of its node, and its name
@@ -24,13 +24,13 @@ pub record Site : Type 0 where
   pub name : List ℕ
 
 -- the database there; where there is none, it has no documents
-abbrev pub database_of : Network Contents → Site → Database
-database_of now s = database_at now.nodes s.place s.name
+abbrev pub database_at_site : Network Contents → Site → Database
+database_at_site now s = database_at now.nodes s.place s.name
 
 -- ---- passes that have copied
 
 -- a pass from the one database to the other
-pub record Leads (t : Transfer) (a b : Site) : Type 0 where
+pub record IsPassBetween (t : Transfer) (a b : Site) : Type 0 where
   pub from : t.from ≡ a.place
   pub source : t.pass.configuration.source_db ≡ a.name
   pub to : t.to ≡ b.place
@@ -41,11 +41,11 @@ pub record Leads (t : Transfer) (a b : Site) : Type 0 where
 pub record HasCopied (now : Network Contents) (a b : Site) (from to : ℕ) : Type 0 where
   pub number : ℕ
   pub transfer : Transfer
-  pub leads : Leads transfer a b
+  pub leads : IsPassBetween transfer a b
   pub start : Network Contents
   pub course : Course Steps start now
-  pub begins : Begins number transfer start
-  pub kept : AreKept transfer (requests_through course)
+  pub begins : PassBegins number transfer start
+  pub kept : DatabasesStay transfer (requests_through course)
   pub pass : Pass
   pub there : pass_at now.transfers number ≡ Some pass
   pub done : pass.phase ≡ Done
@@ -56,7 +56,7 @@ pub record HasCopied (now : Network Contents) (a b : Site) (from to : ℕ) : Typ
 -- Such passes, each of which goes on where the one before ended, up to the length that the source has now, which is its `update_seq`. So
 -- nothing was written at the source since the last of them listed it.
 abbrev pub AreCopied : Network Contents → Site → Site → ℕ → List ℕ → Type 0
-AreCopied now a b from [] = (database_of now a).length ≤ from
+AreCopied now a b from [] = (database_at_site now a).length ≤ from
 AreCopied now a b from (n ∷ ns) = HasCopied now a b from n × AreCopied now a b n ns
 
 -- the other database knows each leaf of the one's documents whose sequences are from 1 to this one, which it has
@@ -70,14 +70,14 @@ pub record HasCaughtUp (g : Group) (old now : Network Contents) (a b : Site) : T
   pub one : g.databases a.place a.name ≡ true
   pub other : g.databases b.place b.name ≡ true
   pub first : ℕ
-  pub had : HasUpTo first (database_of old a) (database_of old b)
+  pub had : HasUpTo first (database_at_site old a) (database_at_site old b)
   pub ends : List ℕ
   pub copied : AreCopied now a b first ends
 
 -- One pass is enough that began at the start, and whose `last_seq` is at least the `update_seq` that its source has now.
 abbrev pub OnePassCatchesUp : Type 0
 OnePassCatchesUp =
-    (g : Group) (old now : Network Contents) (a b : Site) → g.databases a.place a.name ≡ true → g.databases b.place b.name ≡ true → HasCopied now a b 0 (database_of now a).length → HasCaughtUp g old now a b
+    (g : Group) (old now : Network Contents) (a b : Site) → g.databases a.place a.name ≡ true → g.databases b.place b.name ≡ true → HasCopied now a b 0 (database_at_site now a).length → HasCaughtUp g old now a b
 
 -- ---- a quiet network
 
@@ -86,11 +86,11 @@ OnePassCatchesUp =
 -- one before, both ends have the same tree of each document.
 abbrev pub QuietNetworksAgree : Type 0
 QuietNetworksAgree =
-    (g : Group) (ss : List Stage) (old now : Network Contents) (a b : Site) (there back : List Site) → IsReady g old → GroupCourse g ss old now → IsInAgreement g old.nodes
-    → IsWay (HasCaughtUp g old now) a there b → IsWay (HasCaughtUp g old now) b back a → HaveSameTrees (database_of now a) (database_of now b)
+    (g : Group) (ss : List QuietStage) (old now : Network Contents) (a b : Site) (there back : List Site) → IsReady g old → GroupCourse g ss old now → IsInAgreement g old.nodes
+    → IsWay (HasCaughtUp g old now) a there b → IsWay (HasCaughtUp g old now) b back a → HaveSameTrees (database_at_site now a) (database_at_site now b)
 
 -- So do all databases of a ring.
 abbrev pub QuietRingsAgree : Type 0
 QuietRingsAgree =
-    (g : Group) (ss : List Stage) (old now : Network Contents) (a : Site) (ds : List Site) → IsReady g old → GroupCourse g ss old now → IsInAgreement g old.nodes
-    → IsWay (HasCaughtUp g old now) a ds a → AllByRecursion (λ d. HaveSameTrees (database_of now a) (database_of now d)) ds
+    (g : Group) (ss : List QuietStage) (old now : Network Contents) (a : Site) (ds : List Site) → IsReady g old → GroupCourse g ss old now → IsInAgreement g old.nodes
+    → IsWay (HasCaughtUp g old now) a ds a → AllByRecursion (λ d. HaveSameTrees (database_at_site now a) (database_at_site now d)) ds

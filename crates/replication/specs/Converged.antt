@@ -8,20 +8,20 @@ use Rattle.tree.specs.Revision.{Revision}
 use Rattle.tree.specs.Write as tree
 use Rattle.store.specs.Contents.{AreAcceptable}
 use Rattle.store.specs.Database.{Database, DocumentWrite, IsKnownAt, history_at, with_all}
-use Rattle.repl.specs.Configuration.{Configuration}
+use Rattle.repl.specs.Configuration.{PassConfiguration}
 use Rattle.repl.specs.Passes.{Pass}
 use Rattle.repl.specs.declared.phase.Phase.TheVariants.{Done}
 use Rattle.replication.specs.Agreement.{Agrees, HaveSameTree, LeavesAreKnown}
 use Rattle.replication.specs.Sound.{Agree, IsSound}
 use Rattle.replication.specs.Appended.{ComesFrom, IsReplica, IsSaidBy, IsShownBy}
-use Rattle.replication.specs.Crossing.{Crossed, Crossing, Move}
+use Rattle.replication.specs.Crossing.{Crossed, PairState, Move}
 
 -- Two lawful histories that agree, where each leaf of either is known in the other, have the same leaves and the same winner. For each
 -- known revision lies on a path from a leaf, and the other history has this path too, since it has the leaf and the same parents.
 -- A leaf of the one that has a child in the other can't stay: the child lies below a leaf there, which is known in the one.
 abbrev pub LeavesMeet : Type 0
 LeavesMeet =
-    (ws vs : List tree.Write) → tree.IsLawful ws → tree.IsLawful vs → Agrees (content_of ws) (content_of vs) → LeavesAreKnown (content_of ws) (content_of vs)
+    (ws vs : List tree.Write) → tree.AreLawfulWrites ws → tree.AreLawfulWrites vs → Agrees (content_of ws) (content_of vs) → LeavesAreKnown (content_of ws) (content_of vs)
     → LeavesAreKnown (content_of vs) (content_of ws) → HaveSameTree (content_of ws) (content_of vs)
 
 -- what a document says that a sound database shows is a write that comes from there: the same path, the same mark, the same body
@@ -57,7 +57,7 @@ pub record IsPair (a b : Database) : Type 0 where
 -- Two passes in opposite directions keep two sound databases sound, and their agreement, at every moment.
 abbrev pub PassesKeepAgreement : Type 0
 PassesKeepAgreement =
-    (c d : Configuration) (ms : List Move) (now : Crossing) (went : Crossed c d ms now) → IsPair went.first.one went.first.other → IsPair now.one now.other
+    (c d : PassConfiguration) (ms : List Move) (now : PairState) (went : Crossed c d ms now) → IsPair went.first.one went.first.other → IsPair now.one now.other
 
 -- a pass ended that began at the start of its source, and reports nothing
 pub record HasCopiedAll (p : Pass) : Type 0 where
@@ -73,4 +73,4 @@ pub record HasCopiedAll (p : Pass) : Type 0 where
 -- that nobody else writes: a revision that somebody adds after the last listing is known to one side alone.
 abbrev pub TwoPassesConverge : Type 0
 TwoPassesConverge =
-    (c d : Configuration) (ms : List Move) (now : Crossing) (went : Crossed c d ms now) → IsPair went.first.one went.first.other → HasCopiedAll now.there → HasCopiedAll now.back → (id : List ℕ) → HaveSameTree (history_at now.one id) (history_at now.other id)
+    (c d : PassConfiguration) (ms : List Move) (now : PairState) (went : Crossed c d ms now) → IsPair went.first.one went.first.other → HasCopiedAll now.there → HasCopiedAll now.back → (id : List ℕ) → HaveSameTree (history_at now.one id) (history_at now.other id)

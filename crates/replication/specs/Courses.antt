@@ -7,18 +7,18 @@ use Rattle.store.specs.Contents.{Contents}
 use Rattle.store.specs.Database.{history_at, sequence_at}
 use Rattle.node.specs.Runs.{Steps}
 use Rattle.hub.specs.Connections.{ConnectionTable}
-use Rattle.repl.specs.Configuration.{Configuration}
+use Rattle.repl.specs.Configuration.{PassConfiguration}
 use Rattle.repl.specs.Passes.{Pass, first_pass}
 use Rattle.repl.specs.Turns.{Turn, replies_in, start_by}
 use Rattle.repl.specs.declared.phase.Phase.TheVariants.{Done}
 use Rattle.passes.specs.Owed.{Covers, has_covered}
 use Rattle.passes.specs.Settled.{is_settled}
 use Rattle.world.specs.Network.{Network, Transfer, transfer_at}
-use Rattle.world.specs.Service.{StepOf}
-use Rattle.replication.specs.Finished.{Begins, ListsLast, scene_of, source_of, takes_list, target_of}
+use Rattle.world.specs.Service.{StepOf, alike}
+use Rattle.replication.specs.Finished.{PassBegins, ListsLast, scene_of, source_of, takes_list, target_of}
 use Rattle.replication.specs.Parted.{with_pass}
-use Rattle.replication.specs.Requests.{AreKept, AreNoRemovals, Handled, requests_of}
-use Rattle.replication.specs.Runs.{RunOf, pass_at, turns_of}
+use Rattle.replication.specs.Requests.{DatabasesStay, AreNoRemovals, Handled, requests_of}
+use Rattle.replication.specs.Runs.{Run, pass_at, turns_of}
 
 -- Nothing is asked of any node, and the passes that were there are as they were.
 pub record IsArranged {S : Type 0} (old new : Network S) : Type 0 where
@@ -33,7 +33,7 @@ pub data Stage : Type 0 where
 -- runs, and what is arranged before, between and after
 abbrev pub GoesBy : {S : Type 0} → StepOf S → List Stage → Network S → Network S → Type 0
 GoesBy step [] old new = new ≡ old
-GoesBy {S} step (runs ∷ ss) old new = (between : Network S) × RunOf step old between × GoesBy step ss between new
+GoesBy {S} step (runs ∷ ss) old new = (between : Network S) × Run (alike step) old between × GoesBy step ss between new
 GoesBy {S} step (arranges ∷ ss) old new = (between : Network S) × IsArranged old between × GoesBy step ss between new
 
 -- such stages, from one network to another
@@ -85,7 +85,7 @@ pub record CallsArrange (S : Type 0) : Type 0 where
 
 -- Where nobody asks to remove a database of a pass, both stay there.
 abbrev pub CoursesWithoutRemovals : Type 0
-CoursesWithoutRemovals = (t : Transfer) (old new : Network Contents) (course : Course Steps old new) → AreNoRemovals t (requests_through course) → AreKept t (requests_through course)
+CoursesWithoutRemovals = (t : Transfer) (old new : Network Contents) (course : Course Steps old new) → AreNoRemovals t (requests_through course) → DatabasesStay t (requests_through course)
 
 -- ---- what is settled
 
@@ -93,22 +93,22 @@ CoursesWithoutRemovals = (t : Transfer) (old new : Network Contents) (course : C
 -- as it is now. That is so at every later event.
 abbrev pub RoundsCoverInCourses : Type 0
 RoundsCoverInCourses =
-    (n : ℕ) (t : Transfer) (start listed now later : Network Contents) (course : Course Steps start now) (more : Course Steps now later) (p q : Pass) → Begins n t start
-    → AreKept t (requests_through course) → ListsLastThrough course n listed → pass_at now.transfers n ≡ Some p → has_covered p.phase ≡ true
-    → AreKept t (requests_through more) → pass_at later.transfers n ≡ Some q
+    (n : ℕ) (t : Transfer) (start listed now later : Network Contents) (course : Course Steps start now) (more : Course Steps now later) (p q : Pass) → PassBegins n t start
+    → DatabasesStay t (requests_through course) → ListsLastThrough course n listed → pass_at now.transfers n ≡ Some p → has_covered p.phase ≡ true
+    → DatabasesStay t (requests_through more) → pass_at later.transfers n ≡ Some q
     → Covers (source_of t listed) p.start_seq p.last_seq (scene_of t (source_of t listed) later q) × Covers (source_of t now) p.start_seq p.last_seq (scene_of t (source_of t listed) later q)
 
 -- A pass that is done owes nothing, then and later, as in a run.
 abbrev pub DonePassesOweNothingInCourses : Type 0
 DonePassesOweNothingInCourses =
-    (n : ℕ) (t : Transfer) (start listed now later : Network Contents) (course : Course Steps start now) (more : Course Steps now later) (p q : Pass) → Begins n t start
-    → AreKept t (requests_through course) → ListsLastThrough course n listed → pass_at now.transfers n ≡ Some p → p.phase ≡ Done
-    → AreKept t (requests_through more) → pass_at later.transfers n ≡ Some q
+    (n : ℕ) (t : Transfer) (start listed now later : Network Contents) (course : Course Steps start now) (more : Course Steps now later) (p q : Pass) → PassBegins n t start
+    → DatabasesStay t (requests_through course) → ListsLastThrough course n listed → pass_at now.transfers n ≡ Some p → p.phase ≡ Done
+    → DatabasesStay t (requests_through more) → pass_at later.transfers n ≡ Some q
     → (id : List ℕ) (r : Revision) → IsTrue (is_revision r) → IsTrue (is_leaf (history_at (source_of t listed) id) r) → p.start_seq < sequence_at (source_of t listed) id
     → is_settled (target_of t later) q.refused id r ≡ true
 
 -- A pass that is done has listed its source, as in a run, and starts where the first two replies say.
 abbrev pub DonePassesHaveListedInCourses : Type 0
 DonePassesHaveListedInCourses =
-    (n : ℕ) (c : Configuration) (start now : Network Contents) (course : Course Steps start now) (p : Pass) → pass_at start.transfers n ≡ Some (first_pass c) → pass_at now.transfers n ≡ Some p
+    (n : ℕ) (c : PassConfiguration) (start now : Network Contents) (course : Course Steps start now) (p : Pass) → pass_at start.transfers n ≡ Some (first_pass c) → pass_at now.transfers n ≡ Some p
     → p.phase ≡ Done → ((listed : Network Contents) × ListsLastThrough course n listed) × (p.start_seq ≡ start_by (replies_in (turns_through course n)))

@@ -4,9 +4,9 @@ use Rattle.std.specs.Prelude.{◌≡◌, ◌≤◌, ℕ, List, [], ◌∷◌, If
 use Rattle.std.specs.List.{AllByRecursion}
 use Rattle.couch_json.specs.Value.{Value}
 use Rattle.store.specs.Database.{Database}
-use Rattle.repl.specs.Configuration.{Configuration}
+use Rattle.repl.specs.Configuration.{PassConfiguration}
 use Rattle.repl.specs.Passes.{Pass, first_of_pending, first_pass}
-use Rattle.repl.specs.Replies.{Opened, documents_of, revisions_opened}
+use Rattle.repl.specs.Replies.{Opened, documents_of_opened, revisions_opened}
 use Rattle.repl.specs.Turns.{Turn, after_turn, answered, lost}
 use Rattle.repl.specs.declared.phase.Phase.{Phase}
 use Rattle.repl.specs.declared.phase.Phase.TheVariants.{ReadSource, ReadTarget, ListChanges, Compare, Open, Push, WriteSource, WriteTarget, RereadSource, RereadTarget, Done, Stopped}
@@ -33,7 +33,7 @@ pushed_in (Stopped why) p = []
 -- the documents in a reply to opened revisions are shown by this database
 abbrev pub OpensShown : Database → Pass → ℕ → List ℕ → Type 0
 OpensShown db p status body =
-    (opened : List Opened) → revisions_opened status body ≡ Ok opened → AllByRecursion (IsShownBy db (first_of_pending p.pending).id) (documents_of opened)
+    (opened : List Opened) → revisions_opened status body ≡ Ok opened → AllByRecursion (IsShownBy db (first_of_pending p.pending).id) (documents_of_opened opened)
 
 -- where a pass takes documents in, its source shows them
 abbrev pub BringsShown : Phase → Pass → Database → Turn → Type 0
@@ -64,7 +64,7 @@ pub record IsTurn (t : Turn) (old new : Scene) : Type 0 where
 -- ---- two passes
 
 -- two databases, a pass from the one to the other and a pass back, and each database as it was when its pass listed it last
-pub record Crossing : Type 0 where
+pub record PairState : Type 0 where
   pub one : Database
   pub other : Database
   pub there : Pass
@@ -73,11 +73,11 @@ pub record Crossing : Type 0 where
   pub other_listed : Database
 
 -- the scene of the pass from the one to the other
-abbrev pub there_of : Crossing → Scene
+abbrev pub there_of : PairState → Scene
 there_of c = record { source = c.one; target = c.other; listed = c.one_listed; pass = c.there }
 
 -- the scene of the pass back
-abbrev pub back_of : Crossing → Scene
+abbrev pub back_of : PairState → Scene
 back_of c = record { source = c.other; target = c.one; listed = c.other_listed; pass = c.back }
 
 -- one of the passes has a turn, or others do what writes no document
@@ -91,24 +91,24 @@ abbrev pub Waits : Scene → Scene → Type 0
 Waits old new = (new.pass ≡ old.pass) × (new.listed ≡ old.listed)
 
 -- what a move makes of the two databases and the passes
-abbrev pub Moves : Move → Crossing → Crossing → Type 0
-Moves others old new =
+abbrev pub MovesPairs : Move → PairState → PairState → Type 0
+MovesPairs others old new =
     KeepsDocuments old.one new.one × KeepsDocuments old.other new.other × Waits (there_of old) (there_of new) × Waits (back_of old) (back_of new)
-Moves (goes_there t) old new = IsTurn t (there_of old) (there_of new) × Waits (back_of old) (back_of new)
-Moves (goes_back t) old new = IsTurn t (back_of old) (back_of new) × Waits (there_of old) (there_of new)
+MovesPairs (goes_there t) old new = IsTurn t (there_of old) (there_of new) × Waits (back_of old) (back_of new)
+MovesPairs (goes_back t) old new = IsTurn t (back_of old) (back_of new) × Waits (there_of old) (there_of new)
 
 -- moves one after another, in whatever order the two passes have their turns
-abbrev pub Crosses : List Move → Crossing → Crossing → Type 0
+abbrev pub Crosses : List Move → PairState → PairState → Type 0
 Crosses [] old new = new ≡ old
-Crosses (m ∷ ms) old new = (between : Crossing) × Moves m old between × Crosses ms between new
+Crosses (m ∷ ms) old new = (between : PairState) × MovesPairs m old between × Crosses ms between new
 
 -- a batch has one document at least
-abbrev pub HasBatch : Configuration → Type 0
+abbrev pub HasBatch : PassConfiguration → Type 0
 HasBatch c = IfSome c.batch (λ size. 1 ≤ size)
 
 -- two passes of these configurations went from their beginnings through these moves to where they stand now
-pub record Crossed (c d : Configuration) (ms : List Move) (now : Crossing) : Type 0 where
-  pub first : Crossing
+pub record Crossed (c d : PassConfiguration) (ms : List Move) (now : PairState) : Type 0 where
+  pub first : PairState
   pub there : first.there ≡ first_pass c
   pub back : first.back ≡ first_pass d
   pub one_listed : first.one_listed ≡ first.one

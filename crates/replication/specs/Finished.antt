@@ -10,7 +10,7 @@ use Rattle.store.specs.Database.{Database, history_at, sequence_at}
 use Rattle.store.specs.Lawful.{AreLawful}
 use Rattle.node.specs.Runs.{Steps}
 use Rattle.node.specs.Step.{Serving}
-use Rattle.repl.specs.Configuration.{Configuration}
+use Rattle.repl.specs.Configuration.{PassConfiguration}
 use Rattle.repl.specs.Passes.{Pass, first_pass}
 use Rattle.repl.specs.Turns.{Turn, has_listed, replies_in, start_by}
 use Rattle.repl.specs.declared.phase.Phase.TheVariants.{Done}
@@ -19,10 +19,10 @@ use Rattle.passes.specs.Settled.{is_settled}
 use Rattle.passes.specs.Spelled.{AreBytes}
 use Rattle.world.specs.Happening.{Happening, Sight}
 use Rattle.world.specs.Network.{Network, Transfer, transfer_at}
-use Rattle.world.specs.Playing.{PlaysBy}
-use Rattle.world.specs.Service.{HandlingOf}
-use Rattle.replication.specs.Requests.{AreKept, requests_of}
-use Rattle.replication.specs.Runs.{Run, RunOf, pass_at, turns_at, turns_in, turns_of}
+use Rattle.world.specs.Playing.{Plays}
+use Rattle.world.specs.Service.{Handling, alike}
+use Rattle.replication.specs.Requests.{DatabasesStay, requests_of}
+use Rattle.replication.specs.Runs.{Run, pass_at, turns_at, turns_in, turns_of}
 
 -- ---- the databases of a pass
 
@@ -55,7 +55,7 @@ scene_of t listed now p = record { source = source_of t now; target = target_of 
 -- ---- the start
 
 -- the names of the databases are bytes, and a batch has 1 to 1,000 changes
-pub record IsTold (c : Configuration) : Type 0 where
+pub record IsTold (c : PassConfiguration) : Type 0 where
   pub source_db : AreBytes c.source_db
   pub target_db : AreBytes c.target_db
   pub batch : IfSome c.batch (λ size. (1 ≤ size) × (size ≤ 1000))
@@ -65,7 +65,7 @@ abbrev pub AreAllLawful : List (Serving Contents) → Type 0
 AreAllLawful nodes = AllByRecursion (λ n. ∥ AreLawful n.store ∥₁) nodes
 
 -- the pass of this number has been started, and has asked nothing yet
-pub record Begins (n : ℕ) (t : Transfer) (now : Network Contents) : Type 0 where
+pub record PassBegins (n : ℕ) (t : Transfer) (now : Network Contents) : Type 0 where
   pub there : transfer_at now.transfers n ≡ Some t
   pub first : t.pass ≡ first_pass t.pass.configuration
   pub told : IsTold t.pass.configuration
@@ -79,7 +79,7 @@ takes_list None ts = false
 takes_list (Some p) ts = has_listed p ts
 
 -- In these events the pass of this number takes a list of changes in, at the event that came when the network was `listed`, and none later.
-abbrev pub ListsLastIn : {S : Type 0} (handling : HandlingOf S) (n : ℕ) (hs : List Happening) (old : Network S) (seen : List Sight) (new : Network S) → PlaysBy handling old hs seen new → Network S → Type 0
+abbrev pub ListsLastIn : {S : Type 0} (handling : Handling S) (n : ℕ) (hs : List Happening) (old : Network S) (seen : List Sight) (new : Network S) → Plays handling old hs seen new → Network S → Type 0
 ListsLastIn handling n [] old seen new p listed = ⊥
 ListsLastIn handling n (h ∷ hs) old seen new (first, others, between, here, later, order) listed =
     ((listed ≡ old) × (takes_list (pass_at old.transfers n) (turns_at handling n h old first between here) ≡ true)
@@ -87,7 +87,7 @@ ListsLastIn handling n (h ∷ hs) old seen new (first, others, between, here, la
     ⊎ ListsLastIn handling n hs between others new later listed
 
 -- the same of a run: its last list of changes is of this network
-abbrev pub ListsLast : {S : Type 0} {handling : HandlingOf S} {old new : Network S} → Run handling old new → ℕ → Network S → Type 0
+abbrev pub ListsLast : {S : Type 0} {handling : Handling S} {old new : Network S} → Run handling old new → ℕ → Network S → Type 0
 ListsLast {S} {handling} {old} {new} run n listed = ListsLastIn handling n run.happenings old run.seen new run.played listed
 
 -- ---- what is settled
@@ -96,14 +96,14 @@ ListsLast {S} {handling} {old} {new} run n listed = ListsLastIn handling n run.h
 -- above the start, is known at the target or reported.
 abbrev pub DonePassesOweNothing : Type 0
 DonePassesOweNothing =
-    (n : ℕ) (t : Transfer) (start listed now later : Network Contents) (run : RunOf Steps start now) (more : RunOf Steps now later) (p q : Pass) → Begins n t start
-    → AreKept t (requests_of run) → ListsLast run n listed → pass_at now.transfers n ≡ Some p → p.phase ≡ Done
-    → AreKept t (requests_of more) → pass_at later.transfers n ≡ Some q
+    (n : ℕ) (t : Transfer) (start listed now later : Network Contents) (run : Run (alike Steps) start now) (more : Run (alike Steps) now later) (p q : Pass) → PassBegins n t start
+    → DatabasesStay t (requests_of run) → ListsLast run n listed → pass_at now.transfers n ≡ Some p → p.phase ≡ Done
+    → DatabasesStay t (requests_of more) → pass_at later.transfers n ≡ Some q
     → (id : List ℕ) (r : Revision) → IsTrue (is_revision r) → IsTrue (is_leaf (history_at (source_of t listed) id) r) → p.start_seq < sequence_at (source_of t listed) id
     → is_settled (target_of t later) q.refused id r ≡ true
 
 -- A pass that is done has listed its source, and starts where the first two replies say.
 abbrev pub DonePassesHaveListed : Type 0
 DonePassesHaveListed =
-    (n : ℕ) (c : Configuration) (start now : Network Contents) (run : RunOf Steps start now) (p : Pass) → pass_at start.transfers n ≡ Some (first_pass c) → pass_at now.transfers n ≡ Some p
+    (n : ℕ) (c : PassConfiguration) (start now : Network Contents) (run : Run (alike Steps) start now) (p : Pass) → pass_at start.transfers n ≡ Some (first_pass c) → pass_at now.transfers n ≡ Some p
     → p.phase ≡ Done → ((listed : Network Contents) × ListsLast run n listed) × (p.start_seq ≡ start_by (replies_in (turns_of run n)))

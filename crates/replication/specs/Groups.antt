@@ -9,13 +9,13 @@ use Rattle.hub.specs.Connections.{ConnectionTable}
 use Rattle.repl.specs.Passes.{first_pass}
 use Rattle.world.specs.Keeping.{StaysAt}
 use Rattle.world.specs.Network.{Network, Transfer, transfer_at}
-use Rattle.world.specs.Service.{Asker, by_pass, on_connection}
+use Rattle.world.specs.Service.{Asker, alike, by_pass, on_connection}
 use Rattle.replication.specs.Finished.{AreAllLawful, IsTold, database_at}
 use Rattle.replication.specs.Parted.{with_pass}
 use Rattle.replication.specs.Requests.{Handled, requests_of}
-use Rattle.replication.specs.Runs.{RunOf}
+use Rattle.replication.specs.Runs.{Run}
 use Rattle.replication.specs.Appended.{KeepsDocuments}
-use Rattle.replication.specs.Networks.{BecomesAt, Spares, Stage, arranges, runs}
+use Rattle.replication.specs.Networks.{BecomesAt, Spares, QuietStage, arranges, runs}
 use Rattle.replication.specs.Sound.{Agree, IsReplicable}
 
 -- Which databases, each by the number of its node and its name; and which passes, each by its number.
@@ -61,7 +61,7 @@ AreSparingAll g rs =
 
 -- Where the others' requests spare the databases of a group, nobody else writes in them, so they stay in agreement.
 abbrev pub SparingGroups : Type 0
-SparingGroups = (g : Group) (old new : Network Contents) (run : RunOf Steps old new) → AreSparingAll g (requests_of run) → AreOf g (requests_of run)
+SparingGroups = (g : Group) (old new : Network Contents) (run : Run (alike Steps) old new) → AreSparingAll g (requests_of run) → AreOf g (requests_of run)
 
 -- ---- passes
 
@@ -91,10 +91,10 @@ pub record IsArrangedFor (g : Group) (old new : Network Contents) : Type 0 where
   pub passes : (n : ℕ) (t : Transfer) → g.passes n ≡ true → transfer_at new.transfers n ≡ Some t → (transfer_at old.transfers n ≡ Some t) ⊎ IsFresh g t
 
 -- runs in which others leave the databases in agreement, and what is arranged before, between and after
-abbrev pub GroupCourse : Group → List Stage → Network Contents → Network Contents → Type 0
+abbrev pub GroupCourse : Group → List QuietStage → Network Contents → Network Contents → Type 0
 GroupCourse g [] old new = new ≡ old
 GroupCourse g (runs ∷ ss) old new =
-    (between : Network Contents) × (run : RunOf Steps old between) × AreOf g (requests_of run) × GroupCourse g ss between new
+    (between : Network Contents) × (run : Run (alike Steps) old between) × AreOf g (requests_of run) × GroupCourse g ss between new
 GroupCourse g (arranges ∷ ss) old new = (between : Network Contents) × IsArrangedFor g old between × GroupCourse g ss between new
 
 -- Opening and closing connections arranges, and so does starting a pass, where it is between databases of the group if the group has its number.
@@ -106,4 +106,4 @@ pub record CallsArrangeForGroups : Type 0 where
 
 -- At every moment of such a course the databases agree two by two, if they did at first.
 abbrev pub GroupsKeepAgreement : Type 0
-GroupsKeepAgreement = (g : Group) (ss : List Stage) (old new : Network Contents) → IsReady g old → GroupCourse g ss old new → IsInAgreement g old.nodes → IsInAgreement g new.nodes
+GroupsKeepAgreement = (g : Group) (ss : List QuietStage) (old new : Network Contents) → IsReady g old → GroupCourse g ss old new → IsInAgreement g old.nodes → IsInAgreement g new.nodes

@@ -4,7 +4,7 @@ use Rattle.std.specs.Prelude.{◌≡◌, ◌≢◌, ◌⊎◌, ◌+◌, ℕ, Lis
 use Rattle.std.specs.List.{AllByRecursion}
 use Rattle.store.specs.Contents.{Contents}
 use Rattle.store.specs.Database.{Database, history_at}
-use Rattle.api.specs.Asking.{method_of}
+use Rattle.api.specs.Asking.{method_named}
 use Rattle.api.specs.Paths.{database_name_in}
 use Rattle.api.specs.Routing.{page_of}
 use Rattle.api.specs.declared.method.RequestMethod.{RequestMethod}
@@ -17,11 +17,11 @@ use Rattle.hub.specs.Connections.{ConnectionTable}
 use Rattle.repl.specs.Passes.{first_pass}
 use Rattle.world.specs.Keeping.{IsAt, StaysAt}
 use Rattle.world.specs.Network.{Network, Transfer, transfer_at}
-use Rattle.world.specs.Service.{Asker, by_pass, on_connection}
+use Rattle.world.specs.Service.{Asker, alike, by_pass, on_connection}
 use Rattle.replication.specs.Finished.{AreAllLawful, IsTold, database_at, source_of, target_of}
 use Rattle.replication.specs.Parted.{with_pass}
 use Rattle.replication.specs.Requests.{Handled, requests_of}
-use Rattle.replication.specs.Runs.{RunOf}
+use Rattle.replication.specs.Runs.{Run}
 use Rattle.replication.specs.Agreement.{HaveSameTree}
 use Rattle.replication.specs.Appended.{KeepsDocuments}
 use Rattle.replication.specs.Converged.{HasCopiedAll}
@@ -42,9 +42,16 @@ abbrev pub IsOneOf : ℕ → ℕ → Asker → Type 0
 IsOneOf p q (on_connection conn) = ⊥
 IsOneOf p q (by_pass number fate) = (number ≡ p) ⊎ (number ≡ q)
 
+-- two passes of a network: each as it is when it is started, and the number that it has or will have
+pub record TwoPasses : Type 0 where
+  pub there : Transfer
+  pub back : Transfer
+  pub there_number : ℕ
+  pub back_number : ℕ
+
 -- Each request is one of the two passes, or both databases stay, and no document is written in them.
-abbrev pub AreTheirs : ℕ → ℕ → Transfer → List (Handled Contents) → Type 0
-AreTheirs p q t rs = AllByRecursion (λ (r : Handled Contents). IsOneOf p q r.who ⊎ KeepsBoth t r.old r.new) rs
+abbrev pub AreTheirs : TwoPasses → List (Handled Contents) → Type 0
+AreTheirs two rs = AllByRecursion (λ (r : Handled Contents). IsOneOf two.there_number two.back_number r.who ⊎ KeepsBoth two.there r.old r.new) rs
 
 -- ---- two passes
 
@@ -65,10 +72,10 @@ abbrev pub IsAhead : Transfer → Option Transfer → Type 0
 IsAhead t there = (there ≡ Some t) ⊎ (there ≡ None)
 
 -- neither of the two passes has asked anything, and the databases of all nodes are lawful
-pub record AreAhead (p q : ℕ) (t u : Transfer) (now : Network Contents) : Type 0 where
-  pub two : p ≢ q
-  pub there : IsAhead t (transfer_at now.transfers p)
-  pub back : IsAhead u (transfer_at now.transfers q)
+pub record AreAhead (two : TwoPasses) (now : Network Contents) : Type 0 where
+  pub apart : two.there_number ≢ two.back_number
+  pub there : IsAhead two.there (transfer_at now.transfers two.there_number)
+  pub back : IsAhead two.back (transfer_at now.transfers two.back_number)
   pub lawful : AreAllLawful now.nodes
 
 -- ---- what happens
@@ -78,22 +85,22 @@ abbrev pub StaysOrStarts : Transfer → Option Transfer → Option Transfer → 
 StaysOrStarts t before after = (after ≡ before) ⊎ ((before ≡ None) × (after ≡ Some t))
 
 -- Nothing is asked of any node: connections are opened or closed, and passes are started.
-pub record IsArranged (p q : ℕ) (t u : Transfer) (old new : Network Contents) : Type 0 where
+pub record ArrangesPasses (two : TwoPasses) (old new : Network Contents) : Type 0 where
   pub nodes : new.nodes ≡ old.nodes
-  pub there : StaysOrStarts t (transfer_at old.transfers p) (transfer_at new.transfers p)
-  pub back : StaysOrStarts u (transfer_at old.transfers q) (transfer_at new.transfers q)
+  pub there : StaysOrStarts two.there (transfer_at old.transfers two.there_number) (transfer_at new.transfers two.there_number)
+  pub back : StaysOrStarts two.back (transfer_at old.transfers two.back_number) (transfer_at new.transfers two.back_number)
 
 -- a stage of a course: passes run, or passes are arranged
-pub data Stage : Type 0 where
-  runs : Stage
-  arranges : Stage
+pub data QuietStage : Type 0 where
+  runs : QuietStage
+  arranges : QuietStage
 
 -- runs in which nobody else writes, and what is arranged before, between and after
-abbrev pub Course : ℕ → ℕ → Transfer → Transfer → List Stage → Network Contents → Network Contents → Type 0
-Course p q t u [] old new = new ≡ old
-Course p q t u (runs ∷ ss) old new =
-    (between : Network Contents) × (run : RunOf Steps old between) × AreTheirs p q t (requests_of run) × Course p q t u ss between new
-Course p q t u (arranges ∷ ss) old new = (between : Network Contents) × IsArranged p q t u old between × Course p q t u ss between new
+abbrev pub QuietCourse : TwoPasses → List QuietStage → Network Contents → Network Contents → Type 0
+QuietCourse two [] old new = new ≡ old
+QuietCourse two (runs ∷ ss) old new =
+    (between : Network Contents) × (run : Run (alike Steps) old between) × AreTheirs two (requests_of run) × QuietCourse two ss between new
+QuietCourse two (arranges ∷ ss) old new = (between : Network Contents) × ArrangesPasses two old between × QuietCourse two ss between new
 
 -- the two databases of a pass
 pub record AreEnds (t : Transfer) (now : Network Contents) (one other : Database) : Type 0 where
@@ -115,22 +122,23 @@ pub record AreReconcilable (a b : Database) : Type 0 where
 -- At every moment of such a course the two databases agree, if they did at first.
 abbrev pub CoursesKeepAgreement : Type 0
 CoursesKeepAgreement =
-    (p q : ℕ) (t u : Transfer) (ss : List Stage) (old new : Network Contents) → AreOpposite t u → AreAhead p q t u old → Course p q t u ss old new
-    → AreReconcilable (source_of t old) (target_of t old) → AreReconcilable (source_of t new) (target_of t new)
+    (two : TwoPasses) (ss : List QuietStage) (old new : Network Contents) → AreOpposite two.there two.back → AreAhead two old → QuietCourse two ss old new
+    → AreReconcilable (source_of two.there old) (target_of two.there old) → AreReconcilable (source_of two.there new) (target_of two.there new)
 
 -- Through such a course both databases stay there, each from when it is there.
 abbrev pub CoursesKeepBoth : Type 0
 CoursesKeepBoth =
-    (p q : ℕ) (t u : Transfer) (ss : List Stage) (old new : Network Contents) (a b : Database) → AreOpposite t u → AreAhead p q t u old → Course p q t u ss old new → AreEnds t old a b
-    → ∥ ((one other : Database) × AreEnds t new one other) ∥₁
+    (two : TwoPasses) (ss : List QuietStage) (old new : Network Contents) (a b : Database) → AreOpposite two.there two.back → AreAhead two old → QuietCourse two ss old new
+    → AreEnds two.there old a b → ∥ ((one other : Database) × AreEnds two.there new one other) ∥₁
 
 -- Two passes of a network in opposite directions converge: where both have copied all, and nobody else wrote a document since before both
 -- asked for the first time, their databases have the same tree of each document, with the same leaves and the same winner. At the start
 -- bodies are plain, revisions can be written, and the databases agree.
 abbrev pub PassesOfANetworkConverge : Type 0
 PassesOfANetworkConverge =
-    (p q : ℕ) (t u : Transfer) (ss : List Stage) (old new : Network Contents) → AreOpposite t u → AreAhead p q t u old → Course p q t u ss old new
-    → AreReconcilable (source_of t old) (target_of t old) → HasEnded p new → HasEnded q new → (id : List ℕ) → HaveSameTree (history_at (source_of t new) id) (history_at (target_of t new) id)
+    (two : TwoPasses) (ss : List QuietStage) (old new : Network Contents) → AreOpposite two.there two.back → AreAhead two old → QuietCourse two ss old new
+    → AreReconcilable (source_of two.there old) (target_of two.there old) → HasEnded two.there_number new → HasEnded two.back_number new
+    → (id : List ℕ) → HaveSameTree (history_at (source_of two.there new) id) (history_at (target_of two.there new) id)
 
 -- ---- which runs are such
 
@@ -151,21 +159,22 @@ may_write_at (Some page) method = may_write page method
 -- leads into no database or into another one, or no page of this path writes documents by this method.
 abbrev pub Spares : ℕ → List ℕ → Handled Contents → Type 0
 Spares place name r =
-    (r.place ≢ place) ⊎ ((database_name_in r.message.path ≢ Some name) ⊎ (may_write_at (page_of r.message.path) (method_of r.message.method) ≡ false))
+    (r.place ≢ place) ⊎ ((database_name_in r.message.path ≢ Some name) ⊎ (may_write_at (page_of r.message.path) (method_named r.message.method) ≡ false))
 
 -- each request is one of the two passes, or spares both databases
-abbrev pub AreSparing : ℕ → ℕ → Transfer → List (Handled Contents) → Type 0
-AreSparing p q t rs =
+abbrev pub AreSparing : TwoPasses → List (Handled Contents) → Type 0
+AreSparing two rs =
     AllByRecursion
-    (λ (r : Handled Contents). IsOneOf p q r.who ⊎ (Spares t.from t.pass.configuration.source_db r × Spares t.to t.pass.configuration.target_db r)) rs
+    (λ (r : Handled Contents). IsOneOf two.there_number two.back_number r.who
+    ⊎ (Spares two.there.from two.there.pass.configuration.source_db r × Spares two.there.to two.there.pass.configuration.target_db r)) rs
 
 -- Where the others' requests spare both databases, nobody else writes in them.
 abbrev pub SparingRuns : Type 0
 SparingRuns =
-    (p q : ℕ) (t : Transfer) (old new : Network Contents) (run : RunOf Steps old new) → AreSparing p q t (requests_of run) → AreTheirs p q t (requests_of run)
+    (two : TwoPasses) (old new : Network Contents) (run : Run (alike Steps) old new) → AreSparing two (requests_of run) → AreTheirs two (requests_of run)
 
 -- Opening and closing connections arranges, and so does starting a pass, where it is one of the two if it gets the number of one.
 pub record CallsArrange : Type 0 where
-  pub connecting : (p q : ℕ) (t u : Transfer) (old : Network Contents) (homes : List ℕ) (connections : ConnectionTable) → IsArranged p q t u old (record old { homes = homes; connections = connections })
-  pub starting : (p q : ℕ) (t u v : Transfer) (old : Network Contents) → (p ≡ length old.transfers + 1 → v ≡ t) → (q ≡ length old.transfers + 1 → v ≡ u)
-      → IsArranged p q t u old (with_pass v old)
+  pub connecting : (two : TwoPasses) (old : Network Contents) (homes : List ℕ) (connections : ConnectionTable) → ArrangesPasses two old (record old { homes = homes; connections = connections })
+  pub starting : (two : TwoPasses) (v : Transfer) (old : Network Contents) → (two.there_number ≡ length old.transfers + 1 → v ≡ two.there)
+      → (two.back_number ≡ length old.transfers + 1 → v ≡ two.back) → ArrangesPasses two old (with_pass v old)

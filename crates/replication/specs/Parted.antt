@@ -2,36 +2,36 @@
 -- None of it is said by a standard; it follows from the definitions.
 use Rattle.std.specs.Prelude.{◌≡◌, ◌≢◌, ⊤, ℕ, length, List, [], ◌∷◌, ◌++◌}
 use Rattle.hub.specs.Connections.{with_connection}
-use Rattle.node.specs.Runs.{IsServed, Steps}
+use Rattle.node.specs.Runs.{IsServedReply, Steps}
 use Rattle.store.specs.Contents.{Contents}
 use Rattle.world.specs.Happening.{Happening, Sight, comes, ended, exchanged, exchanges, replied}
 use Rattle.world.specs.Network.{Network, Transfer}
-use Rattle.world.specs.Playing.{Plays, PlaysBy}
-use Rattle.world.specs.Service.{HandlingOf, IsHandled, StepOf}
+use Rattle.world.specs.Playing.{Plays}
+use Rattle.world.specs.Service.{Handling, IsHandled, StepOf, alike}
 use Rattle.world.specs.OneEvent.{AreKnown}
 use Rattle.world.specs.declared.fate.Fate.TheVariants.{Answered, ReplyLost, RequestLost}
 
 -- ---- two calls
 
 -- whoever asks, a request is handled, and its reply stands neither for a fault of the store nor for want of memory
-abbrev pub Serves : {S : Type 0} → StepOf S → HandlingOf S
-Serves step who old place m reply new = IsHandled step old place m reply new × IsServed reply
+abbrev pub Serves : {S : Type 0} → StepOf S → Handling S
+Serves step who old place m reply new = IsHandled step old place m reply new × IsServedReply reply
 
 -- The same events from the same network have one outcome, where each request was served.
 abbrev pub PlaysHaveOneOutcome : Type 0
 PlaysHaveOneOutcome =
-    (old new other : Network Contents) (hs : List Happening) (seen told : List Sight) → PlaysBy (Serves Steps) old hs seen new → PlaysBy (Serves Steps) old hs told other
+    (old new other : Network Contents) (hs : List Happening) (seen told : List Sight) → Plays (Serves Steps) old hs seen new → Plays (Serves Steps) old hs told other
     → (seen ≡ told) × (new ≡ other)
 
 -- It makes no difference whether events are played in one call or in two, where each request was served.
 abbrev pub TwoCallsAreOne : Type 0
 TwoCallsAreOne =
-    (a b c d : Network Contents) (earlier later : List Happening) (seen others all : List Sight) → PlaysBy (Serves Steps) a earlier seen b → PlaysBy (Serves Steps) b later others c
-    → PlaysBy (Serves Steps) a (earlier ++ later) all d → (all ≡ seen ++ others) × (d ≡ c)
+    (a b c d : Network Contents) (earlier later : List Happening) (seen others all : List Sight) → Plays (Serves Steps) a earlier seen b → Plays (Serves Steps) b later others c
+    → Plays (Serves Steps) a (earlier ++ later) all d → (all ≡ seen ++ others) × (d ≡ c)
 
 -- what is seen is no reply of 500 or 503
 abbrev pub IsServedSight : Sight → Type 0
-IsServedSight (replied t) = IsServed t.reply
+IsServedSight (replied t) = IsServedReply t.reply
 IsServedSight (exchanged number is_to_target m status) = (status ≢ 500) × (status ≢ 503)
 IsServedSight (ended number asked) = ⊤
 
@@ -55,13 +55,13 @@ AreHeard (h ∷ hs) = IsHeard h × AreHeard hs
 -- Where no reply is lost, and none that is seen is a 500 or a 503, each request was served.
 abbrev pub SightsTellService : {S : Type 0} → StepOf S → Type 0
 SightsTellService {S} step =
-    (old new : Network S) (hs : List Happening) (seen : List Sight) → AreHeard hs → AreServedSights seen → Plays step old hs seen new → PlaysBy (Serves step) old hs seen new
+    (old new : Network S) (hs : List Happening) (seen : List Sight) → AreHeard hs → AreServedSights seen → Plays (alike step) old hs seen new → Plays (Serves step) old hs seen new
 
 -- The same of two calls by what is seen: where no reply is lost, and none that is seen is a 500 or a 503.
 abbrev pub TwoCallsAreSeenAsOne : Type 0
 TwoCallsAreSeenAsOne =
     (a b c d : Network Contents) (earlier later : List Happening) (seen others all : List Sight) → AreHeard earlier → AreHeard later → AreServedSights seen → AreServedSights others → AreServedSights all
-    → Plays Steps a earlier seen b → Plays Steps b later others c → Plays Steps a (earlier ++ later) all d → (all ≡ seen ++ others) × (d ≡ c)
+    → Plays (alike Steps) a earlier seen b → Plays (alike Steps) b later others c → Plays (alike Steps) a (earlier ++ later) all d → (all ≡ seen ++ others) × (d ≡ c)
 
 -- ---- what is added between
 
@@ -74,22 +74,15 @@ abbrev pub with_pass : {S : Type 0} → Transfer → Network S → Network S
 with_pass t old = record old { transfers = old.transfers ++ t ∷ [] }
 
 -- What was played before a connection was opened is what is played after it was opened.
-abbrev pub OpeningChangesNothingBy : {S : Type 0} → HandlingOf S → Type 0
-OpeningChangesNothingBy {S} handling =
+abbrev pub OpeningChangesNothing : {S : Type 0} → Handling S → Type 0
+OpeningChangesNothing {S} handling =
     (node : ℕ) (old new : Network S) (hs : List Happening) (seen : List Sight) → length old.homes ≡ old.connections.opened → AreKnown old.connections old.transfers hs
-    → PlaysBy handling old hs seen new → PlaysBy handling (with_home node old) hs seen (with_home node new)
+    → Plays handling old hs seen new → Plays handling (with_home node old) hs seen (with_home node new)
 
 -- What was played before a pass was started is what is played after it was started.
-abbrev pub StartingChangesNothingBy : {S : Type 0} → HandlingOf S → Type 0
-StartingChangesNothingBy {S} handling =
-    (t : Transfer) (old new : Network S) (hs : List Happening) (seen : List Sight) → PlaysBy handling old hs seen new → PlaysBy handling (with_pass t old) hs seen (with_pass t new)
-
--- the same where each node takes steps of this kind, whoever asks
-abbrev pub OpeningChangesNothing : {S : Type 0} → StepOf S → Type 0
-OpeningChangesNothing step = OpeningChangesNothingBy (λ who. IsHandled step)
-
-abbrev pub StartingChangesNothing : {S : Type 0} → StepOf S → Type 0
-StartingChangesNothing step = StartingChangesNothingBy (λ who. IsHandled step)
+abbrev pub StartingChangesNothing : {S : Type 0} → Handling S → Type 0
+StartingChangesNothing {S} handling =
+    (t : Transfer) (old new : Network S) (hs : List Happening) (seen : List Sight) → Plays handling old hs seen new → Plays handling (with_pass t old) hs seen (with_pass t new)
 
 -- ---- two calls, and what is added between
 
@@ -98,11 +91,11 @@ StartingChangesNothing step = StartingChangesNothingBy (λ who. IsHandled step)
 abbrev pub OpeningMayComeBetween : Type 0
 OpeningMayComeBetween =
     (node : ℕ) (a b c d : Network Contents) (earlier later : List Happening) (seen others all : List Sight) → length a.homes ≡ a.connections.opened → AreKnown a.connections a.transfers earlier
-    → PlaysBy (Serves Steps) a earlier seen b → PlaysBy (Serves Steps) (with_home node b) later others c → PlaysBy (Serves Steps) (with_home node a) (earlier ++ later) all d
+    → Plays (Serves Steps) a earlier seen b → Plays (Serves Steps) (with_home node b) later others c → Plays (Serves Steps) (with_home node a) (earlier ++ later) all d
     → (all ≡ seen ++ others) × (d ≡ c)
 
 -- The same of a pass that is started.
 abbrev pub StartingMayComeBetween : Type 0
 StartingMayComeBetween =
-    (t : Transfer) (a b c d : Network Contents) (earlier later : List Happening) (seen others all : List Sight) → PlaysBy (Serves Steps) a earlier seen b
-    → PlaysBy (Serves Steps) (with_pass t b) later others c → PlaysBy (Serves Steps) (with_pass t a) (earlier ++ later) all d → (all ≡ seen ++ others) × (d ≡ c)
+    (t : Transfer) (a b c d : Network Contents) (earlier later : List Happening) (seen others all : List Sight) → Plays (Serves Steps) a earlier seen b
+    → Plays (Serves Steps) (with_pass t b) later others c → Plays (Serves Steps) (with_pass t a) (earlier ++ later) all d → (all ≡ seen ++ others) × (d ≡ c)

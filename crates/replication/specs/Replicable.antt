@@ -17,10 +17,11 @@ use Rattle.passes.specs.Settled.{is_settled}
 use Rattle.repl.specs.Passes.{Pass}
 use Rattle.repl.specs.declared.phase.Phase.TheVariants.{Done}
 use Rattle.world.specs.Network.{AreHonest, Network, Transfer, over_databases}
+use Rattle.world.specs.Service.{alike}
 use Rattle.replication.specs.Courses.{Course}
-use Rattle.replication.specs.Finished.{Begins, ListsLast, source_of, target_of}
-use Rattle.replication.specs.Requests.{AreKept, requests_of}
-use Rattle.replication.specs.Runs.{RunOf, pass_at}
+use Rattle.replication.specs.Finished.{PassBegins, ListsLast, source_of, target_of}
+use Rattle.replication.specs.Requests.{DatabasesStay, requests_of}
+use Rattle.replication.specs.Runs.{Run, pass_at}
 use Rattle.replication.specs.Sound.{AreWritable, IsReplicable}
 
 -- each database has plain bodies, and revisions that can be written
@@ -38,7 +39,7 @@ AreAllReplicable nodes = (place : ℕ) (node : Serving Contents) → slice_get n
 
 -- Through a run of a network the databases of its nodes stay so.
 abbrev pub RunsKeepReplicable : Type 0
-RunsKeepReplicable = (old new : Network Contents) → RunOf Steps old new → AreAllReplicable old.nodes → AreAllReplicable new.nodes
+RunsKeepReplicable = (old new : Network Contents) → Run (alike Steps) old new → AreAllReplicable old.nodes → AreAllReplicable new.nodes
 
 -- ---- revisions that can be written, alone
 
@@ -57,7 +58,7 @@ AreAllWritable nodes = (place : ℕ) (node : Serving Contents) → slice_get nod
 
 -- So it stays through a run of a network, and through a course.
 abbrev pub RunsKeepWritable : Type 0
-RunsKeepWritable = (old new : Network Contents) → RunOf Steps old new → AreAllWritable old.nodes → AreAllWritable new.nodes
+RunsKeepWritable = (old new : Network Contents) → Run (alike Steps) old new → AreAllWritable old.nodes → AreAllWritable new.nodes
 
 abbrev pub CoursesKeepWritable : Type 0
 CoursesKeepWritable = (old new : Network Contents) → Course Steps old new → AreAllWritable old.nodes → AreAllWritable new.nodes
@@ -66,9 +67,9 @@ CoursesKeepWritable = (old new : Network Contents) → Course Steps old new → 
 -- document whose sequence is above the start, is known at the target or reported, then and later.
 abbrev pub DonePassesOweNoLeaf : Type 0
 DonePassesOweNoLeaf =
-    (n : ℕ) (t : Transfer) (start listed now later : Network Contents) (run : RunOf Steps start now) (more : RunOf Steps now later) (p q : Pass) → Begins n t start → AreAllWritable start.nodes
-    → AreKept t (requests_of run) → ListsLast run n listed → pass_at now.transfers n ≡ Some p → p.phase ≡ Done
-    → AreKept t (requests_of more) → pass_at later.transfers n ≡ Some q
+    (n : ℕ) (t : Transfer) (start listed now later : Network Contents) (run : Run (alike Steps) start now) (more : Run (alike Steps) now later) (p q : Pass) → PassBegins n t start → AreAllWritable start.nodes
+    → DatabasesStay t (requests_of run) → ListsLast run n listed → pass_at now.transfers n ≡ Some p → p.phase ≡ Done
+    → DatabasesStay t (requests_of more) → pass_at later.transfers n ≡ Some q
     → (id : List ℕ) (r : Revision) → IsTrue (is_leaf (history_at (source_of t listed) id) r) → p.start_seq < sequence_at (source_of t listed) id
     → is_settled (target_of t later) q.refused id r ≡ true
 

@@ -5,7 +5,7 @@ use Rattle.std.specs.FinMap.{get}
 use Rattle.couch_json.specs.Value.{Value, Members, no_members, member}
 use Rattle.tree.specs.History.{held_of}
 use Rattle.tree.specs.Revision.{Revision, is_revision}
-use Rattle.tree.specs.ShownDocument.{members_in}
+use Rattle.tree.specs.ShownDocument.{body_members}
 use Rattle.tree.specs.declared.entry.Held.{Held}
 use Rattle.store.specs.Database.{Database, Document, HasSequences, IsKnownAt, history_at}
 use Rattle.store.specs.Lawful.{IsWritten}
@@ -25,7 +25,7 @@ are_plain (member name v ms) = not (is_special name) && are_plain ms
 
 -- a body has no special members: one that had `_deleted` would be read as a deletion once it is sent
 abbrev pub is_plain : Value → Bool
-is_plain body = are_plain (members_in body)
+is_plain body = are_plain (body_members body)
 
 -- each body that is held is plain
 abbrev pub HavePlainBodies : Database → Type 0

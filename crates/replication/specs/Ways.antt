@@ -3,7 +3,7 @@
 use Rattle.std.specs.Prelude.{ℕ, List, [], ◌∷◌}
 use Rattle.std.specs.List.{AllByRecursion}
 use Rattle.store.specs.Database.{Database, history_at}
-use Rattle.store.specs.Lawful.{IsLawful}
+use Rattle.store.specs.Lawful.{IsLawfulDatabase}
 use Rattle.replication.specs.Agreement.{HaveSameTree, LeavesAreKnown}
 use Rattle.replication.specs.Sound.{Agree}
 
@@ -14,8 +14,8 @@ IsWay leads a (c ∷ cs) b = leads a c × IsWay leads c cs b
 
 -- two lawful databases that agree, where each leaf of the one is known in the other
 pub record HasAllOf (a b : Database) : Type 0 where
-  pub one : IsLawful a
-  pub other : IsLawful b
+  pub one : IsLawfulDatabase a
+  pub other : IsLawfulDatabase b
   pub agree : Agree a b
   pub leaves : (id : List ℕ) → LeavesAreKnown (history_at a id) (history_at b id)
 

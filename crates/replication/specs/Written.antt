@@ -12,13 +12,13 @@ use Rattle.store.specs.Contents.{Contents}
 use Rattle.store.specs.Database.{Database}
 use Rattle.node.specs.Runs.{Steps}
 use Rattle.repl.specs.Calls.{Call, Revisions, compare_revisions, documents_value, list_changes, open_revisions, push_documents, read_checkpoint, request_of, revisions_value, texts_value, write_checkpoint}
-use Rattle.repl.specs.Configuration.{Configuration, database_of}
-use Rattle.repl.specs.Replies.{Opened, documents_of, revisions_opened}
+use Rattle.repl.specs.Configuration.{PassConfiguration, database_of_side}
+use Rattle.repl.specs.Replies.{Opened, documents_of_opened, revisions_opened}
 use Rattle.repl.specs.declared.side.Side.{Side}
 use Rattle.repl.specs.declared.side.Side.TheVariants.{Source}
 use Rattle.replication.specs.Finished.{found_or_new}
 use Rattle.passes.specs.Spelled.{AreBytes}
-use Rattle.passes.specs.Told.{Reads}
+use Rattle.passes.specs.Told.{ReadsDatabase}
 use Rattle.replication.specs.Appended.{Appends, IsShownBy, KeepsDocuments}
 
 -- The database of this name, or a new one where there is none, became this; and where there is one, it is there afterwards.
@@ -51,19 +51,19 @@ AsksLawfully (push_documents documents) = ⊤
 -- a call that pushes nothing writes no document: a checkpoint is a local one
 abbrev pub OtherCallsWriteNothing : Type 0
 OtherCallsWriteNothing =
-    (c : auth.Configuration) (before : Contents) (k : Configuration) (side : Side) (call : Call) (r : Reply) (after : Contents) → is_push call ≡ false → AsksLawfully call
+    (c : auth.Configuration) (before : Contents) (k : PassConfiguration) (side : Side) (call : Call) (r : Reply) (after : Contents) → is_push call ≡ false → AsksLawfully call
     → Steps c before (request_of k side call) r after → WritesNowhere before after
 
 -- a push appends, in the database that it names, what its documents say, or some of it, or nothing; and it writes no document elsewhere
 abbrev pub PushesAppendWhatIsSaid : Type 0
 PushesAppendWhatIsSaid =
-    (c : auth.Configuration) (before : Contents) (k : Configuration) (side : Side) (documents : List Value) (r : Reply) (after : Contents) → AreBytes (database_of k side)
+    (c : auth.Configuration) (before : Contents) (k : PassConfiguration) (side : Side) (documents : List Value) (r : Reply) (after : Contents) → AreBytes (database_of_side k side)
     → IsLawful (documents_value documents) → Steps c before (request_of k side (push_documents documents)) r after
-    → Becomes before (database_of k side) after (Appends documents) × ((name : List ℕ) → name ≢ database_of k side → Becomes before name after KeepsDocuments)
+    → Becomes before (database_of_side k side) after (Appends documents) × ((name : List ℕ) → name ≢ database_of_side k side → Becomes before name after KeepsDocuments)
 
 -- the documents of opened revisions that are taken in are shown by the source
 abbrev pub OpenedAreShown : Type 0
 OpenedAreShown =
-    (c : auth.Configuration) (before : Contents) (k : Configuration) (row : Revisions) (opened : List Opened) (r : Reply) (after : Contents) → AreBytes k.source_db → AreBytes row.id
+    (c : auth.Configuration) (before : Contents) (k : PassConfiguration) (row : Revisions) (opened : List Opened) (r : Reply) (after : Contents) → AreBytes k.source_db → AreBytes row.id
     → AreBytes (canonical (texts_value row.revisions)) → IsLawful (texts_value row.revisions) → Steps c before (request_of k Source (open_revisions row)) r after
-    → revisions_opened r.status r.body ≡ Ok opened → Reads before k.source_db after (λ db. AllByRecursion (IsShownBy db row.id) (documents_of opened))
+    → revisions_opened r.status r.body ≡ Ok opened → ReadsDatabase before k.source_db after (λ db. AllByRecursion (IsShownBy db row.id) (documents_of_opened opened))

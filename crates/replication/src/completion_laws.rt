@@ -7,11 +7,12 @@ ghost use Rattle.node.specs.Runs.{Steps};
 ghost use Rattle.repl.specs.Configuration.{configuration_of};
 ghost use Rattle.repl.specs.Passes.{first_pass};
 ghost use Rattle.world.specs.Network.{AreHonest, Network, Transfer, over_databases};
+ghost use Rattle.world.specs.Service.{alike};
 ghost use Rattle.replication.specs.Courses.{CallsArrange, CoursesWithoutRemovals, DonePassesHaveListedInCourses};
 ghost use Rattle.replication.specs.Courses.{DonePassesOweNothingInCourses, RoundsCoverInCourses};
-ghost use Rattle.replication.specs.Finished.{Begins, DonePassesHaveListed, DonePassesOweNothing, IsTold};
-ghost use Rattle.replication.specs.Parted.{OpeningChangesNothing, OpeningChangesNothingBy, OpeningMayComeBetween};
-ghost use Rattle.replication.specs.Parted.{StartingChangesNothing, StartingChangesNothingBy, StartingMayComeBetween};
+ghost use Rattle.replication.specs.Finished.{PassBegins, DonePassesHaveListed, DonePassesOweNothing, IsTold};
+ghost use Rattle.replication.specs.Parted.{OpeningChangesNothing, OpeningMayComeBetween};
+ghost use Rattle.replication.specs.Parted.{StartingChangesNothing, StartingMayComeBetween};
 ghost use Rattle.replication.specs.Parted.{PlaysHaveOneOutcome, Serves, SightsTellService, TwoCallsAreOne, TwoCallsAreSeenAsOne, with_pass};
 ghost use Rattle.replication.specs.Reported.{PassesGoByTurns, ReportsAreToldInCourses, StartsAreReadInCourses, StopsHaveCausesInCourses, TurnsAreSeen};
 ghost use Rattle.replication.specs.Requests.{RunsThatKeep, RunsThatServe};
@@ -86,12 +87,12 @@ pub fn sights_tell_service<S: Store>()
 /// A connection that is opened, or a pass that is started, after some events changes nothing of them. So it is
 /// of served events too.
 pub fn additions_change_nothing<S: Store>()
-    ensures opening { OpeningChangesNothing (StoreSteps S.Store) }
-    ensures starting { StartingChangesNothing (StoreSteps S.Store) }
-    ensures opening_of_databases { OpeningChangesNothing Steps }
-    ensures starting_of_databases { StartingChangesNothing Steps }
-    ensures opening_where_served { OpeningChangesNothingBy (Serves (StoreSteps S.Store)) }
-    ensures starting_where_served { StartingChangesNothingBy (Serves (StoreSteps S.Store)) }
+    ensures opening { OpeningChangesNothing (alike (StoreSteps S.Store)) }
+    ensures starting { StartingChangesNothing (alike (StoreSteps S.Store)) }
+    ensures opening_of_databases { OpeningChangesNothing (alike Steps) }
+    ensures starting_of_databases { StartingChangesNothing (alike Steps) }
+    ensures opening_where_served { OpeningChangesNothing (Serves (StoreSteps S.Store)) }
+    ensures starting_where_served { StartingChangesNothing (Serves (StoreSteps S.Store)) }
 {}
 
 /// A connection may be opened, or a pass started, between two calls: it makes no difference to playing all
@@ -111,7 +112,7 @@ pub fn runs_are_told_by_their_requests()
 /// A pass that is started begins, where the stores of all nodes are honest.
 pub fn started_passes_begin<S: Store>()
     ensures { (old : Network S) (t : Transfer) → AreHonest S.Store old.nodes → t.pass ≡ first_pass t.pass.configuration → IsTold t.pass.configuration
-        → Begins (length old.transfers + 1) t (with_pass t (over_databases S.Store old)) }
+        → PassBegins (length old.transfers + 1) t (with_pass t (over_databases S.Store old)) }
 {}
 
 /// The names of databases that a pass is told are bytes, and its batch has 1 to 1,000 changes.

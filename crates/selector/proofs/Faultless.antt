@@ -3,7 +3,7 @@ use Rattle.std.proofs.Common.{◌≡◌, ℕ, ◌+◌, Bool, true, false, if◌t
 use Rattle.couch_json.specs.FieldPath.{is_field_path, value_at}
 use Rattle.couch_json.specs.Parts.{is_object, is_there_and}
 use Rattle.couch_json.specs.Value.{Value, null, truth, whole, text, array, object, Items, no_items, item, Members, no_members, member}
-use Rattle.selector.specs.Grammar.{first, filled_fault, is_reserved, max_level, selector_fault, list_fault, members_fault, items_fault, member_fault}
+use Rattle.selector.specs.Grammar.{first, filled_fault, begins_as_operator, max_level, selector_fault, list_fault, members_fault, items_fault, member_fault}
 use Rattle.selector.specs.Operators.{operator_named}
 use Rattle.selector.specs.Truth.{is_true, truths, are_true, item_truths, member_truth, selector_operator_truth, list_operator_truth, meets}
 use Rattle.selector.specs.declared.fault.SelectorFault.{SelectorFault}
@@ -35,10 +35,10 @@ not_deep false f h = h
 -- ---- the root
 
 same_field : (root other : Value) (name : List ℕ) (v : Value) (level : ℕ) (reached : Option Value) (b : Bool)
-    → (if is_reserved name then Some fault.Operator else (if is_field_path name then (if b then selector_fault false v level else None) else Some fault.Argument)) ≡ None
+    → (if begins_as_operator name then Some fault.Operator else (if is_field_path name then (if b then selector_fault false v level else None) else Some fault.Argument)) ≡ None
     → (selector_fault false v level ≡ None → (c : Option Value) → is_true root v c ≡ is_true other v c)
     → (if b then is_true root v reached else is_there_and (meets IsEqual v) reached) ≡ (if b then is_true other v reached else is_there_and (meets IsEqual v) reached)
-same_field root other name v level reached true h inside = inside (field_none (is_reserved name) (is_field_path name) (selector_fault false v level) h) reached
+same_field root other name v level reached true h inside = inside (field_none (begins_as_operator name) (is_field_path name) (selector_fault false v level) h) reached
 same_field root other name v level reached false h inside = refl
 
 same_member : (root other : Value) (o : Option Operator) (name : List ℕ) (v : Value) (level : ℕ) (current : Option Value)
@@ -105,7 +105,7 @@ rule_member (Some (operator.Value o)) name v f g in_list in_rule_list inside amo
 rule_member (Some operator.SameAs) name v f g in_list in_rule_list inside among h = search (rules, h)
 rule_member (Some (operator.Selector o)) name v f g in_list in_rule_list inside among h = inside h
 rule_member (Some (operator.List o)) name v f g in_list in_rule_list inside among h = among h
-rule_member None name v f g in_list in_rule_list inside among h = rule_field (is_reserved name) (is_field_path name) (is_object v) f g inside h
+rule_member None name v f g in_list in_rule_list inside among h = rule_field (begins_as_operator name) (is_field_path name) (is_object v) f g inside h
 
 first_of_none : (a b : Option SelectorFault) → a ≡ None → b ≡ None → first a b ≡ None
 first_of_none a b no_a no_b = ap (λ f. first f b) no_a ∙ no_b

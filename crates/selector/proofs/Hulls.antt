@@ -12,7 +12,7 @@ use Rattle.couch_json.specs.declared.value.Json.{Json}
 use Rattle.couch_json.proofs.Orders.{collation_tied, collation_total}
 use Rattle.selector.specs.Bounds.{AreJust, IsEdgeAt, contain, is_above, is_below}
 use Rattle.selector.specs.Members.{value_order}
-use Rattle.selector.specs.Truth.{is_among, meets}
+use Rattle.selector.specs.Truth.{is_element, meets}
 use Rattle.selector.specs.declared.bounds.Bounds.{Bounds}
 use Rattle.selector.specs.declared.bounds.Bounds.TheVariants.{Any, Range}
 use Rattle.selector.specs.declared.bounds.Edge.{Edge}
@@ -79,23 +79,23 @@ less_is : (o : Ordering) → o ≡ Less → is_le o ≡ true
 less_is o is = ap is_le is
 
 -- what is among values above another one lies above it
-above_one : (y : Json) (ys : List Json) → AllByRecursion (λ z. value_order y z ≡ Less) ys → (v : Value) → is_among v (items_view ys) ≡ true → is_lt (collation (view y) v) ≡ true
+above_one : (y : Json) (ys : List Json) → AllByRecursion (λ z. value_order y z ≡ Less) ys → (v : Value) → is_element v (items_view ys) ≡ true → is_lt (collation (view y) v) ≡ true
 above_one y [] all v among = absurd cc
 above_one y (z ∷ zs) all v among =
-    one_of (equals v z) (is_among v (items_view zs)) (is_lt (collation (view y) v)) among
+    one_of (equals v z) (is_element v (items_view zs)) (is_lt (collation (view y) v)) among
     (λ e. ap (λ w. is_lt (collation (view y) w)) (collation_tied v (view z) (equal_is (collation v (view z)) e)) ∙ ap is_lt all.0)
     (λ e. above_one y zs all.1 v e)
 
-above_first : (xs : List Json) (x : Json) → IsStrictlySortedBy value_order xs → Some x ≡ slice_get xs 0 → (v : Value) → is_among v (items_view xs) ≡ true → is_ge (collation v (view x)) ≡ true
+above_first : (xs : List Json) (x : Json) → IsStrictlySortedBy value_order xs → Some x ≡ slice_get xs 0 → (v : Value) → is_element v (items_view xs) ≡ true → is_ge (collation v (view x)) ≡ true
 unfolding IsStrictlySortedBy
 above_first [] x s is v among = absurd cc
 above_first (y ∷ ys) x s is v among =
     let same : y ≡ x = cc in
     ap (λ j. is_ge (collation v (view j))) (sym same)
-    ∙ one_of (equals v y) (is_among v (items_view ys)) (is_ge (collation v (view y))) among (not_less (collation v (view y)))
+    ∙ one_of (equals v y) (is_element v (items_view ys)) (is_ge (collation v (view y))) among (not_less (collation v (view y)))
     (λ e. turned_ge (collation (view y) v) (collation v (view y)) (collation_total.antisymm v (view y)) (above_one y ys s.0 v e))
 
-below_last : (xs : List Json) (n : ℕ) (x : Json) → IsStrictlySortedBy value_order xs → length xs ≡ suc n → Some x ≡ slice_get xs n → (v : Value) → is_among v (items_view xs) ≡ true → is_le (collation v (view x)) ≡ true
+below_last : (xs : List Json) (n : ℕ) (x : Json) → IsStrictlySortedBy value_order xs → length xs ≡ suc n → Some x ≡ slice_get xs n → (v : Value) → is_element v (items_view xs) ≡ true → is_le (collation v (view x)) ≡ true
 unfolding IsStrictlySortedBy
 below_last [] n x s long is v among = absurd cc
 below_last (y ∷ []) zero x s long is v among =
@@ -104,18 +104,18 @@ below_last (y ∷ []) zero x s long is v among =
 below_last (y ∷ []) (suc n) x s long is v among = absurd (omega (arith, long))
 below_last (y ∷ z ∷ zs) zero x s long is v among = absurd (omega (arith, long))
 below_last (y ∷ z ∷ zs) (suc n) x s long is v among =
-    one_of (equals v y) (is_among v (items_view (z ∷ zs))) (is_le (collation v (view x))) among
+    one_of (equals v y) (is_element v (items_view (z ∷ zs))) (is_le (collation v (view x))) among
     (λ e. ap (λ w. is_le (collation w (view x))) (collation_tied v (view y) (equal_is (collation v (view y)) e))
     ∙ less_is (value_order y x) (at_get (λ w. value_order y w ≡ Less) (z ∷ zs) n x s.0 is))
     (λ e. below_last (z ∷ zs) n x s.1 (omega (arith, long)) is v e)
 
-long_by : (xs : List Json) (v : Value) → is_among v (items_view xs) ≡ true → length xs ≡ suc (length xs - 1)
+long_by : (xs : List Json) (v : Value) → is_element v (items_view xs) ≡ true → length xs ≡ suc (length xs - 1)
 long_by [] v among = absurd cc
 long_by (x ∷ xs) v among = omega arith
 
 -- the edges at the first and at the last of values in their order contain what is among them
 pub ends_contain : (xs : List Json) (x y : Json) (low high : Edge) → IsStrictlySortedBy value_order xs → Some x ≡ slice_get xs 0 → Some y ≡ slice_get xs (length xs - 1)
-    → IsEdgeAt (view x) (Some low) → IsEdgeAt (view y) (Some high) → (current : Option Value) → is_there_and (λ v. is_among v (items_view xs)) current ≡ true → contain (Range (Some low) (Some high)) current ≡ true
+    → IsEdgeAt (view x) (Some low) → IsEdgeAt (view y) (Some high) → (current : Option Value) → is_there_and (λ v. is_element v (items_view xs)) current ≡ true → contain (Range (Some low) (Some high)) current ≡ true
 ends_contain xs x y low high s first last from to None among = among
 ends_contain xs x y low high s first last from to (Some v) among =
     both_true (is_above (Some low) v) (is_below (Some high) v)

@@ -12,7 +12,7 @@ use Rattle.std.specs.Cmp.{eq_by_cmp_equiv}
 use Rattle.std.proofs.lemmas.Map.Keys.{IsDistinct-from_sorted}
 use Rattle.std.proofs.lemmas.Map.Made.{length-le_from_is_member}
 use Rattle.selector.specs.Members.{marks_of, value_order}
-use Rattle.selector.specs.Truth.{each_item, each_of_some, is_among}
+use Rattle.selector.specs.Truth.{each_item, each_of_some, is_element}
 use Rattle.selector.proofs.Searches.{below_at, equal_is, equals, is_among-any, or_true, value_order_total}
 
 -- ---- truth values
@@ -60,9 +60,9 @@ or_false : (b : Bool) → b || false ≡ b
 or_false true = refl
 or_false false = refl
 
-among-push : (v : Value) (done : List Json) (x : Json) → is_among v (items_view (done ++ x ∷ [])) ≡ is_among v (items_view done) || equals v x
+among-push : (v : Value) (done : List Json) (x : Json) → is_element v (items_view (done ++ x ∷ [])) ≡ is_element v (items_view done) || equals v x
 among-push v [] x = or_false (equals v x)
-among-push v (d ∷ done) x = ap (λ b. equals v d || b) (among-push v done x) ∙ or_assoc (equals v d) (is_among v (items_view done)) (equals v x)
+among-push v (d ∷ done) x = ap (λ b. equals v d || b) (among-push v done x) ∙ or_assoc (equals v d) (is_element v (items_view done)) (equals v x)
 
 -- x is not y, whichever is asked for
 apart : (v w : Value) → is_eq (collation v w) ≡ false → is_eq (collation w v) ≡ false
@@ -76,22 +76,22 @@ or_none true b h = search (rules, h)
 or_none false b h = (refl, h)
 
 -- an item that is none of the values
-pub marks-missed : (xs done : List Json) (x : Json) → is_among (view x) (items_view xs) ≡ false → marks_of xs done ≡ marks_of xs (done ++ x ∷ [])
+pub marks-missed : (xs done : List Json) (x : Json) → is_element (view x) (items_view xs) ≡ false → marks_of xs done ≡ marks_of xs (done ++ x ∷ [])
 marks-missed [] done x h = refl
 marks-missed (y ∷ ys) done x h =
-    let none = or_none (equals (view x) y) (is_among (view x) (items_view ys)) h in
-    let head = unmoved (equals (view y) x) (is_among (view y) (items_view done)) (apart (view x) (view y) none.0) ∙ sym (among-push (view y) done x) in
+    let none = or_none (equals (view x) y) (is_element (view x) (items_view ys)) h in
+    let head = unmoved (equals (view y) x) (is_element (view y) (items_view done)) (apart (view x) (view y) none.0) ∙ sym (among-push (view y) done x) in
     λ i. head i ∷ marks-missed ys done x none.1 i
 
 -- an item that is below the values
-below_all : (x y : Json) (ys : List Json) → collation (view y) (view x) ≡ Equal → AllByRecursion (λ z. value_order y z ≡ Less) ys → is_among (view x) (items_view ys) ≡ false
+below_all : (x y : Json) (ys : List Json) → collation (view y) (view x) ≡ Equal → AllByRecursion (λ z. value_order y z ≡ Less) ys → is_element (view x) (items_view ys) ≡ false
 below_all x y [] same h = refl
 below_all x y (z ∷ zs) same h =
     let less : collation (view x) (view z) ≡ Less = sym (collation_total.congr (view y) (view x) (view z) same) ∙ h.0 in
-    ap (λ r. is_eq r || is_among (view x) (items_view zs)) less ∙ below_all x y zs same h.1
+    ap (λ r. is_eq r || is_element (view x) (items_view zs)) less ∙ below_all x y zs same h.1
 
-marked : (v : Value) (done : List Json) (x : Json) → collation v (view x) ≡ Equal → true ≡ is_among v (items_view (done ++ x ∷ []))
-marked v done x same = sym (among-push v done x ∙ ap (λ r. is_among v (items_view done) || is_eq r) same ∙ or_true (is_among v (items_view done)))
+marked : (v : Value) (done : List Json) (x : Json) → collation v (view x) ≡ Equal → true ≡ is_element v (items_view (done ++ x ∷ []))
+marked v done x same = sym (among-push v done x ∙ ap (λ r. is_element v (items_view done) || is_eq r) same ∙ or_true (is_element v (items_view done)))
 
 less_apart : (y z x : Json) → value_order y z ≡ Less → collation (view z) (view x) ≡ Equal → equals (view y) x ≡ false
 less_apart y z x less same =
@@ -109,7 +109,7 @@ marks-found (y ∷ ys) done x zero s lt h =
 marks-found (y ∷ ys) done x (suc k) s lt h =
     let z = get_or ys k y in
     let less = below_at (λ z. value_order y z ≡ Less) ys k y s.0 (omega arith) in
-    let head = unmoved (equals (view y) x) (is_among (view y) (items_view done)) (less_apart y z x less (h y)) ∙ sym (among-push (view y) done x) in
+    let head = unmoved (equals (view y) x) (is_element (view y) (items_view done)) (less_apart y z x less (h y)) ∙ sym (among-push (view y) done x) in
     let rest = marks-found ys done x k s.1 (omega arith) h in
     λ i. head i ∷ rest i
 
@@ -117,9 +117,9 @@ pub marks-none : (xs : List Json) → replicate (length xs) false ≡ marks_of x
 marks-none [] = refl
 marks-none (x ∷ xs) = ap (λ ms. false ∷ ms) (marks-none xs)
 
-pub all-marks : (xs items : List Json) → list_all (λ b. b) (marks_of xs items) ≡ each_item (λ w. is_among w (items_view items)) (items_view xs)
+pub all-marks : (xs items : List Json) → list_all (λ b. b) (marks_of xs items) ≡ each_item (λ w. is_element w (items_view items)) (items_view xs)
 all-marks [] items = refl
-all-marks (x ∷ xs) items = ap (λ b. is_among (view x) (items_view items) && b) (all-marks xs items)
+all-marks (x ∷ xs) items = ap (λ b. is_element (view x) (items_view items) && b) (all-marks xs items)
 
 -- ---- the values in parts
 
@@ -151,42 +151,42 @@ ascending-drop (suc k) (x ∷ xs) s = ascending-drop k xs s.1
 
 -- ---- the same elements in another list
 
-itself : (v : Value) (vs : Items) → is_among v (item v vs) ≡ true
-itself v vs = ap (λ r. is_eq r || is_among v vs) (same_self (collation v v) (collation_total.antisymm v v))
+itself : (v : Value) (vs : Items) → is_element v (item v vs) ≡ true
+itself v vs = ap (λ r. is_eq r || is_element v vs) (same_self (collation v v) (collation_total.antisymm v v))
 
-at_among : (P : Value → Bool) (v : Value) (vs : Items) → is_among v vs ≡ true → each_item P vs ≡ true → P v ≡ true
+at_among : (P : Value → Bool) (v : Value) (vs : Items) → is_element v vs ≡ true → each_item P vs ≡ true → P v ≡ true
 at_among P v no_items h all = search (rules, h)
 at_among P v (item w vs) h all =
     let parts = and_both (P w) (each_item P vs) all in
-    one_of (is_eq (collation v w)) (is_among v vs) (P v) h (λ e. ap P (collation_tied v w (equal_is (collation v w) e)) ∙ parts.0) (λ e. at_among P v vs e parts.1)
+    one_of (is_eq (collation v w)) (is_element v vs) (P v) h (λ e. ap P (collation_tied v w (equal_is (collation v w) e)) ∙ parts.0) (λ e. at_among P v vs e parts.1)
 
-each_within : (P : Value → Bool) (vs ws : Items) → ((v : Value) → is_among v vs ≡ true → is_among v ws ≡ true) → each_item P ws ≡ true → each_item P vs ≡ true
+each_within : (P : Value → Bool) (vs ws : Items) → ((v : Value) → is_element v vs ≡ true → is_element v ws ≡ true) → each_item P ws ≡ true → each_item P vs ≡ true
 each_within P no_items ws within all = refl
 each_within P (item v vs) ws within all =
     both_are (P v) (each_item P vs) (at_among P v ws (within v (itself v vs)) all)
     (each_within P vs ws (λ u e. within u (ap (λ b. is_eq (collation u v) || b) e ∙ or_true (is_eq (collation u v)))) all)
 
-some_within : (P : Value → Bool) (vs ws : Items) → ((v : Value) → is_among v vs ≡ is_among v ws) → each_of_some P ws ≡ true → each_of_some P vs ≡ true
+some_within : (P : Value → Bool) (vs ws : Items) → ((v : Value) → is_element v vs ≡ is_element v ws) → each_of_some P ws ≡ true → each_of_some P vs ≡ true
 some_within P vs no_items same all = search (rules, all)
 some_within P no_items (item w ws) same all = absurd_bool (same w ∙ itself w ws)
 some_within P (item v vs) (item w ws) same all = each_within P (item v vs) (item w ws) (λ u e. sym (same u) ∙ e) all
 
-pub each_of_some-same : (P : Value → Bool) (vs ws : Items) → ((v : Value) → is_among v vs ≡ is_among v ws) → each_of_some P vs ≡ each_of_some P ws
+pub each_of_some-same : (P : Value → Bool) (vs ws : Items) → ((v : Value) → is_element v vs ≡ is_element v ws) → each_of_some P vs ≡ each_of_some P ws
 each_of_some-same P vs ws same = both_ways (each_of_some P vs) (each_of_some P ws) (some_within P ws vs (λ v. sym (same v))) (some_within P vs ws same)
 
 -- ---- more values than items
 
 -- each of the values is among the items, so there are as many items
-as_many : (xs items : List Json) → IsStrictlySortedBy value_order xs → each_item (λ w. is_among w (items_view items)) (items_view xs) ≡ true → length xs ≤ length items
+as_many : (xs items : List Json) → IsStrictlySortedBy value_order xs → each_item (λ w. is_element w (items_view items)) (items_view xs) ≡ true → length xs ≤ length items
 as_many xs items s each =
     length-le_from_is_member (eq_by_cmp_equiv value_order_total) xs items (IsDistinct-from_sorted value_order xs s)
     (λ q m. sym (is_among-any (view q) items)
-    ∙ at_among (λ w. is_among w (items_view items)) (view q) (items_view xs) (is_among-any (view q) xs ∙ m) each)
+    ∙ at_among (λ w. is_element w (items_view items)) (view q) (items_view xs) (is_among-any (view q) xs ∙ m) each)
 
-pub too_many : (xs items : List Json) → IsStrictlySortedBy value_order xs → length items < length xs → false ≡ each_item (λ w. is_among w (items_view items)) (items_view xs)
-too_many xs items s more = by (each_item (λ w. is_among w (items_view items)) (items_view xs)) refl
+pub too_many : (xs items : List Json) → IsStrictlySortedBy value_order xs → length items < length xs → false ≡ each_item (λ w. is_element w (items_view items)) (items_view xs)
+too_many xs items s more = by (each_item (λ w. is_element w (items_view items)) (items_view xs)) refl
   where
-    by : (b : Bool) → each_item (λ w. is_among w (items_view items)) (items_view xs) ≡ b → false ≡ each_item (λ w. is_among w (items_view items)) (items_view xs)
+    by : (b : Bool) → each_item (λ w. is_element w (items_view items)) (items_view xs) ≡ b → false ≡ each_item (λ w. is_element w (items_view items)) (items_view xs)
     by true each = absurd (omega (arith, more, as_many xs items s each))
     by false none = sym none
 
@@ -199,7 +199,7 @@ step-found xs done more x marks after (Ok j) i s steps were put is there =
 step-found xs done more x marks after (Err j) i s steps were put is there = absurd_bool (ap is_ok is)
 
 pub step-missed : (xs done more : List Json) (x : Json) (marks after : List Bool) (r : Result ℕ ℕ) (i : ℕ) → more ≡ done ++ x ∷ []
-    → marks ≡ marks_of xs done → after ≡ marks → r ≡ Err i → is_ok r ≡ is_among (view x) (items_view xs) → after ≡ marks_of xs more
+    → marks ≡ marks_of xs done → after ≡ marks → r ≡ Err i → is_ok r ≡ is_element (view x) (items_view xs) → after ≡ marks_of xs more
 step-missed xs done more x marks after r i steps were put is among =
     put ∙ were ∙ marks-missed xs done x (sym among ∙ ap is_ok is) ∙ ap (marks_of xs) (sym steps)
 

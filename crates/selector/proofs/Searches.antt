@@ -11,7 +11,7 @@ use Rattle.couch_json.specs.View.{view, items_view}
 use Rattle.couch_json.specs.declared.value.Json.{Json}
 use Rattle.couch_json.proofs.Orders.{collation_total}
 use Rattle.selector.specs.Members.{HaveSame, value_order}
-use Rattle.selector.specs.Truth.{elements, is_among, meets}
+use Rattle.selector.specs.Truth.{elements_or_none, is_element, meets}
 use Rattle.selector.specs.declared.operator.ValueOperator.TheVariants.{IsIn}
 use Rattle.couch_json.specs.Parts.{is_there_and}
 
@@ -30,7 +30,7 @@ equals v w = is_eq (collation v (view w))
 abbrev pub ties : Json → Json → Bool
 ties x y = is_eq (value_order x y)
 
-pub is_among-any : (v : Value) (js : List Json) → is_among v (items_view js) ≡ list_any (equals v) js
+pub is_among-any : (v : Value) (js : List Json) → is_element v (items_view js) ≡ list_any (equals v) js
 is_among-any v [] = refl
 is_among-any v (j ∷ js) = ap (λ b. equals v j || b) (is_among-any v js)
 
@@ -108,23 +108,23 @@ pub or_true : (b : Bool) → b || true ≡ true
 or_true true = refl
 or_true false = refl
 
-found : (v : Value) (xs : List Json) (i : ℕ) → i < length xs → HoldsAt (λ y. collation (view y) v ≡ Equal) xs i → is_among v (items_view xs) ≡ true
+found : (v : Value) (xs : List Json) (i : ℕ) → i < length xs → HoldsAt (λ y. collation (view y) v ≡ Equal) xs i → is_element v (items_view xs) ≡ true
 found v [] i lt h = absurd (omega arith)
-found v (x ∷ xs) zero lt h = ap (λ r. is_eq r || is_among v (items_view xs)) (turned v (view x) Equal (h x))
+found v (x ∷ xs) zero lt h = ap (λ r. is_eq r || is_element v (items_view xs)) (turned v (view x) Equal (h x))
 found v (x ∷ xs) (suc i) lt h = ap (λ b. equals v x || b) (found v xs i (omega arith) h) ∙ or_true (equals v x)
 
 missing : (v : Value) (xs : List Json) (i : ℕ) → i ≤ length xs → AllWithin (λ y. collation (view y) v ≡ Less) xs 0 i → AllWithin (λ y. collation (view y) v ≡ Greater) xs i (length xs)
-    → is_among v (items_view xs) ≡ false
+    → is_element v (items_view xs) ≡ false
 missing v [] i le low high = refl
 missing v (x ∷ xs) zero le low high =
-    ap (λ r. is_eq r || is_among v (items_view xs)) (turned v (view x) Greater (high 0 x (omega arith) (omega arith)))
+    ap (λ r. is_eq r || is_element v (items_view xs)) (turned v (view x) Greater (high 0 x (omega arith) (omega arith)))
     ∙ missing v xs zero (omega arith) (λ k d ge lt. absurd (omega arith)) (λ k d ge lt. high (suc k) d (omega arith) (omega arith))
 missing v (x ∷ xs) (suc i) le low high =
-    ap (λ r. is_eq r || is_among v (items_view xs)) (turned v (view x) Less (low 0 x (omega arith) (omega arith)))
+    ap (λ r. is_eq r || is_element v (items_view xs)) (turned v (view x) Less (low 0 x (omega arith) (omega arith)))
     ∙ missing v xs i (omega arith) (λ k d ge lt. low (suc k) d (omega arith) (omega arith)) (λ k d ge lt. high (suc k) d (omega arith) (omega arith))
 
 pub searched : (v : Value) (xs : List Json) → IsStrictlySortedBy value_order xs → (r : Result ℕ ℕ) → IsSearchInRange r (length xs) → IsBinarySearchResult (λ y. collation (view y) v) xs r
-    → is_ok r ≡ is_among v (items_view xs)
+    → is_ok r ≡ is_element v (items_view xs)
 searched v xs s (Ok i) lt h = sym (found v xs i lt h)
 searched v xs s (Err i) le h = let parts = h (λ j k d ge lt. rises v xs j k d s ge lt) in sym (missing v xs i le parts.0 parts.1)
 
@@ -135,7 +135,7 @@ searched_place v xs (Err i) le h = tt
 
 -- ---- a value that is there, and among the elements of a list
 
-pub is_there-same : (values : List Json) (list : Value) → HaveSame values (elements list) → (current : Option Value) → is_there_and (meets IsIn list) current ≡ true
-    → is_there_and (λ v. is_among v (items_view values)) current ≡ true
+pub is_there-same : (values : List Json) (list : Value) → HaveSame values (elements_or_none list) → (current : Option Value) → is_there_and (meets IsIn list) current ≡ true
+    → is_there_and (λ v. is_element v (items_view values)) current ≡ true
 is_there-same values list same None there = there
 is_there-same values list same (Some v) there = same v ∙ there

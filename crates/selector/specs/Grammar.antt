@@ -53,9 +53,9 @@ is_path v = is_there_and is_field_path (text_in v)
 -- ---- the first fault
 
 -- the fault, where it is not so
-abbrev pub unless : Bool → SelectorFault → Option SelectorFault
-unless true f = None
-unless false f = Some f
+abbrev pub fault_unless : Bool → SelectorFault → Option SelectorFault
+fault_unless true f = None
+fault_unless false f = Some f
 
 -- the first of two, in the order of the text
 abbrev pub first : Option SelectorFault → Option SelectorFault → Option SelectorFault
@@ -63,8 +63,8 @@ first None later = later
 first (Some f) later = Some f
 
 -- `$` begins the name of an operator
-abbrev pub is_reserved : List ℕ → Bool
-is_reserved name = starts_with nat_eq name (codes "$")
+abbrev pub begins_as_operator : List ℕ → Bool
+begins_as_operator name = starts_with nat_eq name (codes "$")
 
 -- a field has a selector or a bare value
 abbrev pub field_fault : List ℕ → Value → Option SelectorFault → Option SelectorFault
@@ -73,17 +73,17 @@ field_fault name v as_selector =
 
 -- a path to compare with, which the selector of a rule alone may hold; elsewhere there is no such operator
 abbrev pub same_fault : Bool → Value → Option SelectorFault
-same_fault true v = unless (is_path v) fault.Argument
+same_fault true v = fault_unless (is_path v) fault.Argument
 same_fault false v = Some fault.Operator
 
 -- a member, whose value has the fault `as_selector` where it is read as a selector, and `as_list` as a list of selectors
 abbrev pub member_fault : Bool → Option Operator → List ℕ → Value → Option SelectorFault → Option SelectorFault → Option SelectorFault
-member_fault in_rule (Some operator.Exists) name v as_selector as_list = unless (is_truth v) fault.Argument
-member_fault in_rule (Some (operator.Value o)) name v as_selector as_list = unless (takes o v) fault.Argument
+member_fault in_rule (Some operator.Exists) name v as_selector as_list = fault_unless (is_truth v) fault.Argument
+member_fault in_rule (Some (operator.Value o)) name v as_selector as_list = fault_unless (takes o v) fault.Argument
 member_fault in_rule (Some operator.SameAs) name v as_selector as_list = same_fault in_rule v
 member_fault in_rule (Some (operator.Selector o)) name v as_selector as_list = as_selector
 member_fault in_rule (Some (operator.List o)) name v as_selector as_list = as_list
-member_fault in_rule None name v as_selector as_list = if is_reserved name then Some fault.Operator else field_fault name v as_selector
+member_fault in_rule None name v as_selector as_list = if begins_as_operator name then Some fault.Operator else field_fault name v as_selector
 
 -- a list has at least one selector, and the first fault among them
 abbrev pub filled_fault : Items → Option SelectorFault → Option SelectorFault

@@ -46,12 +46,12 @@ each_item test no_items = true
 each_item test (item v vs) = test v && each_item test vs
 
 -- the elements of a list, and none where it is no list
-abbrev pub elements : Value → Items
-elements v = items_or_none (items_in v)
+abbrev pub elements_or_none : Value → Items
+elements_or_none v = items_or_none (items_in v)
 
 -- an element equals the value
-abbrev pub is_among : Value → Items → Bool
-is_among v vs = some_item (λ w. is_eq (collation v w)) vs
+abbrev pub is_element : Value → Items → Bool
+is_element v vs = some_item (λ w. is_eq (collation v w)) vs
 
 -- how many items a list has
 abbrev pub items_length : Items → ℕ
@@ -82,11 +82,11 @@ meets IsAtMost argument v = is_le (collation v argument)
 meets IsGreater argument v = is_gt (collation v argument)
 meets IsAtLeast argument v = is_ge (collation v argument)
 meets HasType argument v = has_type argument v
-meets IsIn argument v = is_among v (elements argument)
-meets IsNotIn argument v = not (is_among v (elements argument))
+meets IsIn argument v = is_element v (elements_or_none argument)
+meets IsNotIn argument v = not (is_element v (elements_or_none argument))
 meets HasSize argument v = has_size argument v
 meets HasRemainder argument v = has_remainder (division_in argument) v
-meets HasAll argument v = each_of_some (λ w. is_among w (elements v)) (elements argument)
+meets HasAll argument v = each_of_some (λ w. is_element w (elements_or_none v)) (elements_or_none argument)
 
 -- ---- the truth of a selector
 
@@ -99,8 +99,8 @@ exists_as argument current = false
 -- an operator with one selector, whose truth of each value is given
 abbrev pub selector_operator_truth : SelectorOperator → (Option Value → Bool) → Option Value → Bool
 selector_operator_truth IsFalse truth_at current = not (truth_at current)
-selector_operator_truth SomeElement truth_at current = is_there_and (λ v. some_item (λ w. truth_at (Some w)) (elements v)) current
-selector_operator_truth EachElement truth_at current = is_there_and (λ v. each_of_some (λ w. truth_at (Some w)) (elements v)) current
+selector_operator_truth SomeElement truth_at current = is_there_and (λ v. some_item (λ w. truth_at (Some w)) (elements_or_none v)) current
+selector_operator_truth EachElement truth_at current = is_there_and (λ v. each_of_some (λ w. truth_at (Some w)) (elements_or_none v)) current
 
 -- an operator with a list of selectors, whose truths are given
 abbrev pub list_operator_truth : ListOperator → List Bool → Bool

@@ -8,7 +8,7 @@ ghost use Rattle.couch_json.specs.View.{view, items_of, items_view};
 ghost use Rattle.selector.specs.Bounds.{AreJust, IsInside, contain, is_above, is_below, is_no_higher, is_no_lower, path_value};
 ghost use Rattle.selector.specs.Members.{value_order};
 ghost use Rattle.selector.specs.Operators.{operator_named};
-ghost use Rattle.selector.specs.Truth.{is_among, is_true, item_truths, meets, member_truth, truths};
+ghost use Rattle.selector.specs.Truth.{is_element, is_true, item_truths, meets, member_truth, truths};
 ghost use Rattle.selector.specs.View.{name_of, value_of};
 ghost use Rattle.selector.specs.declared.bounds.Bounds.TheVariants.{Any};
 
@@ -182,7 +182,7 @@ fn bounds_of_members<'a>(members: &'a Members) -> Bounds<'a>
 /// Returns bounds of a value that is among these, which stand in their order: the first and the last.
 fn bounds_of_values<'a>(values: &'a [Json]) -> Bounds<'a>
     requires { IsStrictlySortedBy value_order values.now }
-    ensures { (current : Option Value) → is_there_and (λ v. is_among v (items_view values.now)) current ≡ true
+    ensures { (current : Option Value) → is_there_and (λ v. is_element v (items_view values.now)) current ≡ true
         → contain result current ≡ true }
 {
     match (values.first(), values.last()) {

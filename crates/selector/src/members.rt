@@ -5,7 +5,7 @@ ghost use Rattle.couch_json.specs.Collation.{collation};
 ghost use Rattle.std.specs.List.Sorted.{IsStrictlySortedBy};
 ghost use Rattle.couch_json.specs.View.{view, items_view};
 ghost use Rattle.selector.specs.Members.{HaveSame, marks_of, value_order};
-ghost use Rattle.selector.specs.Truth.{each_item, each_of_some, elements, is_among};
+ghost use Rattle.selector.specs.Truth.{each_item, each_of_some, elements_or_none, is_element};
 
 use crate::elements::are_among;
 use couch_json::{Got, Json, collate};
@@ -44,7 +44,7 @@ impl Model for Members {
     ghost use Rattle.couch_json.specs.View.{view as json_view};
     ghost use Rattle.std.specs.List.Sorted.{IsStrictlySortedBy};
     ghost use Rattle.selector.specs.Members.{HaveSame, value_order};
-    ghost use Rattle.selector.specs.Truth.{elements};
+    ghost use Rattle.selector.specs.Truth.{elements_or_none};
 
     ghost Value = { JsonValue };
 
@@ -52,7 +52,7 @@ impl Model for Members {
 
     ghost view = { λ m. json_view m.list.value };
 
-    ghost invariant = { λ m. HaveSame m.values.items (elements (json_view m.list.value)) × IsStrictlySortedBy value_order m.values.items };
+    ghost invariant = { λ m. HaveSame m.values.items (elements_or_none (json_view m.list.value)) × IsStrictlySortedBy value_order m.values.items };
 }
 
 impl Members {
@@ -69,7 +69,7 @@ impl Members {
 
     /// Tells whether the value equals one of the elements.
     pub(crate) fn contains(&self, value: &Json) -> bool
-        ensures { result ≡ is_among (view value.now) (elements self.now) }
+        ensures { result ≡ is_element (view value.now) (elements_or_none self.now) }
     {
         find(value, &self.values).is_ok()
     }
@@ -77,14 +77,14 @@ impl Members {
     /// Tells whether there is an element, and each is among the items. It goes through the items
     /// once for each `PASS` elements.
     pub(crate) fn are_all_in(&self, items: &[Json]) -> bool
-        ensures { result ≡ each_of_some (λ w. is_among w (items_view items.now)) (elements self.now) }
+        ensures { result ≡ each_of_some (λ w. is_element w (items_view items.now)) (elements_or_none self.now) }
     {
         has_each(self.as_slice(), items)
     }
 
     /// Returns the elements in their order, each once.
     pub(crate) fn as_slice(&self) -> &[Json]
-        ensures same { HaveSame result.now (elements self.now) }
+        ensures same { HaveSame result.now (elements_or_none self.now) }
         ensures ascending { IsStrictlySortedBy value_order result.now }
     {
         &self.values
@@ -92,7 +92,7 @@ impl Members {
 }
 
 fn copy_elements(alloc: Global, list: &Json) -> Got<Vec<Json>>
-    ensures { IfOk result (λ vs. items_view vs.items ≡ elements (view list.now)) }
+    ensures { IfOk result (λ vs. items_view vs.items ≡ elements_or_none (view list.now)) }
 {
     match list.copy(alloc)? {
         Json::Array(items) => Ok(items),
@@ -118,7 +118,7 @@ fn sort_values(values: Vec<Json>) -> Vec<Json>
 /// Finds where a value stands among values in their order, or else where it would stand.
 fn find(value: &Json, values: &[Json]) -> Result<usize, usize>
     requires { IsStrictlySortedBy value_order values.now }
-    ensures among { is_ok result ≡ is_among (view value.now) (items_view values.now) }
+    ensures among { is_ok result ≡ is_element (view value.now) (items_view values.now) }
     ensures place { IfOk result (λ at. (at < length values.now) × HoldsAt (λ y. collation (view y) (view value.now) ≡ Equal) values.now at) }
 {
     values.binary_search_by(
@@ -132,7 +132,7 @@ fn find(value: &Json, values: &[Json]) -> Result<usize, usize>
 /// least as many items then.
 fn has_each(values: &[Json], items: &[Json]) -> bool
     requires { IsStrictlySortedBy value_order values.now }
-    ensures { result ≡ each_of_some (λ w. is_among w (items_view items.now)) (items_view values.now) }
+    ensures { result ≡ each_of_some (λ w. is_element w (items_view items.now)) (items_view values.now) }
 {
     if values.is_empty() {
         return false;
@@ -146,7 +146,7 @@ fn has_each(values: &[Json], items: &[Json]) -> bool
 /// Tells whether each of the values, which stand in their order, is among the items.
 fn are_among_by_parts(values: &[Json], items: &[Json]) -> bool
     requires { IsStrictlySortedBy value_order values.now }
-    ensures { result ≡ each_item (λ w. is_among w (items_view items.now)) (items_view values.now) }
+    ensures { result ≡ each_item (λ w. is_element w (items_view items.now)) (items_view values.now) }
 {
     let mut rest = values;
     while rest.len() > PASS {
@@ -163,7 +163,7 @@ fn are_among_by_parts(values: &[Json], items: &[Json]) -> bool
 fn are_found(values: &[Json], items: &[Json]) -> bool
     requires ascending { IsStrictlySortedBy value_order values.now }
     requires few { length values.now ≤ PASS }
-    ensures { result ≡ each_item (λ w. is_among w (items_view items.now)) (items_view values.now) }
+    ensures { result ≡ each_item (λ w. is_element w (items_view items.now)) (items_view values.now) }
 {
     if values.len() <= FEW {
         return are_among(values, items);
@@ -178,7 +178,7 @@ fn are_found(values: &[Json], items: &[Json]) -> bool
 fn are_found_by_some_marks(values: &[Json], items: &[Json]) -> bool
     requires ascending { IsStrictlySortedBy value_order values.now }
     requires few { length values.now ≤ SOME }
-    ensures { result ≡ each_item (λ w. is_among w (items_view items.now)) (items_view values.now) }
+    ensures { result ≡ each_item (λ w. is_element w (items_view items.now)) (items_view values.now) }
 {
     let mut marks = [false; SOME];
     let marks = &mut marks[..values.len()];
@@ -191,7 +191,7 @@ fn are_found_by_some_marks(values: &[Json], items: &[Json]) -> bool
 fn are_found_by_many_marks(values: &[Json], items: &[Json]) -> bool
     requires ascending { IsStrictlySortedBy value_order values.now }
     requires few { length values.now ≤ PASS }
-    ensures { result ≡ each_item (λ w. is_among w (items_view items.now)) (items_view values.now) }
+    ensures { result ≡ each_item (λ w. is_element w (items_view items.now)) (items_view values.now) }
 {
     let mut marks = [false; PASS];
     let marks = &mut marks[..values.len()];

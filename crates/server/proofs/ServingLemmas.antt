@@ -72,4 +72,4 @@ on_err (Err e) x = x
 
 -- where nothing was done
 pub serves_none : {S : Type 0} (g : Ghosts S) (hub : HubState S) → ServesMany g hub hub
-serves_none g hub = (None, None, record { acts = []; said = []; standings = empty; logs = tt; runs = (refl, refl) })
+serves_none g hub = (None, None, record { deeds = []; standings = empty; logs = tt; runs = refl })

@@ -17,8 +17,10 @@ pub record Passage : Type 0 where
 
 -- a connection was served up to some end, or turned away
 abbrev pub WasServed : {S : Type 0} → Ghosts S → HubState S → HubState S → Type 0
-WasServed g old new = (end : ServiceEnd) × (p : Passage) × ServesOrTurnsAway g old end p.input p.rest p.output p.after new
+WasServed g old new =
+    (end : ServiceEnd) × (p : Passage)
+    × ServesOrTurnsAway g (record { hub = old; input = p.input; output = p.output }) end (record { hub = new; input = p.rest; output = p.after })
 
 -- many connections at once, by some acts, whatever of them was known
 abbrev pub ServesMany : {S : Type 0} → Ghosts S → HubState S → HubState S → Type 0
-ServesMany g old new = (before : Option (List Act)) × (after : Option (List Act)) × ServesAll g old before new after
+ServesMany g old new = (before after : Option (List Act)) × ServesAll g (record { hub = old; log = before }) (record { hub = new; log = after })

@@ -69,7 +69,7 @@ pub fn serve_sockets<S: Store + Drop, W: Sockets>(
     ensures status { IfOk result (λ status. status ≡ 0) }
 
     // All that was done is told by the acts that were logged.
-    ensures served { ServesAll S.Store hub.old (W.log sockets.old) hub.new (W.log sockets.new) }
+    ensures served { ServesAll S.Store (record { hub = hub.old; log = W.log sockets.old }) (record { hub = hub.new; log = W.log sockets.new }) }
     ensures configuration { hub.new.node.configuration ≡ hub.old.node.configuration }
     ensures onward { GoesOn S.Store hub.old.node.store hub.new.node.store }
     ensures socket { IfErr result (λ fault. fault ≡ ProgramFault.Socket) }

@@ -3,6 +3,7 @@
 ghost use Rattle.std.specs.Prelude.{length};
 ghost use Rattle.engine.specs.Flows.{FlowsAtMost, ReadsPart};
 
+use couch_http::{read_some, write_some};
 use engine::{Accepted, Backlog, Flow, Sockets};
 use hub::measure_part;
 use mio::net::{TcpListener, TcpStream};
@@ -13,7 +14,6 @@ use std::io;
 use std::io::ErrorKind;
 use std::net::{Ipv4Addr, Net, Shutdown, SocketAddr};
 use std::time::{Clock, Duration};
-use streams::{read_some, write_some};
 
 /// How many connections one wait reports at most.
 const REPORTS: usize = 1_024;

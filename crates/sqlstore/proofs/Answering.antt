@@ -1,5 +1,5 @@
 -- What a reader of a store answers, from what it read, and what it leaves.
-use Rattle.sqlstore.proofs.Common.{AllByRecursion, Answers, Bool, Damaged, DatabaseNumbers, Err, FoundValues, Ghosts, IsDatabaseRow, IsKnown, IsLaid, IsRead, IsShownDatabase, IsShownLocal, IsStanding, IsTrue, KnownDatabase, List, Memory, NoDatabase, None, NumberValues, Ok, OnlyReads, Option, Result, Row, Some, SqlStore, Stands, StoreFault, Trees, WasStore, [], all-filter, all-slice_get, all_map, ap, arith, contents_in, contents_of, database_of, dbs_tree, false, filter, found_in, found_shown, get, inl, inr, is_honest, is_named, is_of, is_security, length, local_at, local_of, local_shown, locals_tree, map, next_number, numbers_in, option_map, refl, shown_database, shown_local, slice_get, state, subst, sym, trees_of, ℕ, ∥∥₁_elim, ∥∥₁_map, ◌+◌, ◌<◌, ◌^◌, ◌∙◌, ◌∷◌, ◌≡◌, ◌≤◌}
+use Rattle.sqlstore.proofs.Common.{AllByRecursion, Answers, Bool, Damaged, DatabaseNumbers, Err, FoundValues, Ghosts, IsDatabaseRow, IsKnown, IsWellFormed, IsRead, IsShownDatabase, IsShownLocal, IsStanding, IsTrue, KnownDatabase, List, Memory, NoDatabase, None, NumberValues, Ok, OnlyReads, Option, Result, Row, Some, SqlStore, Stands, StoreFault, Trees, WasStore, [], all-filter, all-slice_get, all_map, ap, arith, contents_in, contents_of, database_of_row, dbs_tree, false, filter, found_in, found_shown, get, inl, inr, is_honest, is_named, is_row_of_document, is_security, length, local_at, local_of, local_shown, locals_tree, map, next_number, numbers_in, option_map, refl, shown_database, shown_local, slice_get, state, subst, sym, trees_of, ℕ, ∥∥₁_elim, ∥∥₁_map, ◌+◌, ◌<◌, ◌^◌, ◌∙◌, ◌∷◌, ◌≡◌, ◌≤◌}
 use Rattle.store.specs.Causes.{HasFailed}
 use Rattle.store.specs.Database.{Database}
 use Rattle.sqlite_sql.specs.Ops.{fits_i64}
@@ -59,7 +59,7 @@ module _ {S : Type 0} (g : Ghosts S) where
   failed_later a b c up (inr h) = inr h
 
   -- the rows of an honest store are laid out
-  pub laid : (s : SqlStore S g) → is_honest g s → ∥ IsLaid (trees_of g s) ∥₁
+  pub laid : (s : SqlStore S g) → is_honest g s → ∥ IsWellFormed (trees_of g s) ∥₁
   laid s honest = ∥∥₁_map (s.standing.held honest.0 honest.1) (λ holds. holds.store.laid)
 
 -- the rows that the query of a database shows are intact, and say what is found
@@ -75,7 +75,7 @@ pub record IsThere {A : Type 0} (read : Row → A) (trees : Trees) (name : List 
   pub row : Row
   pub first : slice_get (filter (is_named name) (trees dbs_tree)) 0 ≡ Some row
   pub values : read row ≡ k
-  pub database : get (contents_in trees) name ≡ Some (database_of trees row)
+  pub database : get (contents_in trees) name ≡ Some (database_of_row trees row)
 
 module _ {A : Type 0} (read : Row → A) (trees : Trees) (name : List ℕ) where
   abbrev first : Option Row
@@ -84,13 +84,13 @@ module _ {A : Type 0} (read : Row → A) (trees : Trees) (name : List ℕ) where
   pub there : (k : A) → option_map read first ≡ Some k → IsThere read trees name k
   there k h =
       let r = mapped_some read first k h in
-      record { row = r.0; first = r.1; values = r.2; database = database_found trees name ∙ ap (option_map (database_of trees)) r.1 }
+      record { row = r.0; first = r.1; values = r.2; database = database_found trees name ∙ ap (option_map (database_of_row trees)) r.1 }
 
   -- where no row is found there is no database
   pub absent : option_map read first ≡ None → get (contents_in trees) name ≡ None
   absent h = database_found trees name ∙ go first h
     where
-      go : (o : Option Row) → option_map read o ≡ None → option_map (database_of trees) o ≡ None
+      go : (o : Option Row) → option_map read o ≡ None → option_map (database_of_row trees) o ≡ None
       go None h = refl
       go (Some r) h = absurd (cc)
 
@@ -104,18 +104,18 @@ module _ {A : Type 0} (read : Row → A) (trees : Trees) (name : List ℕ) where
 pub security_there : (trees : Trees) (name : List ℕ) (k : FoundValues) → IsThere found_in trees name k → option_map (λ (db : Database). db.security) (get (contents_in trees) name) ≡ Some k.1
 security_there trees name k t = ap (option_map (λ (db : Database). db.security)) t.database ∙ ap (λ (v : FoundValues). Some v.1) t.values
 
-pub security_intact : (trees : Trees) (name : List ℕ) (k : FoundValues) → IsLaid trees → IsThere found_in trees name k → IsTrue (is_security k.1)
+pub security_intact : (trees : Trees) (name : List ℕ) (k : FoundValues) → IsWellFormed trees → IsThere found_in trees name k → IsTrue (is_security k.1)
 security_intact trees name k l t = subst (λ (v : FoundValues). IsTrue (is_security v.1)) t.values (all-slice_get IsDatabaseRow _ 0 t.row t.first (all-filter IsDatabaseRow (is_named name) _ l.dbs)).security
 
 -- a local document of a database that is found
-pub local_there : (trees : Trees) (name id : List ℕ) (k : NumberValues) (rows : List Row) → IsThere numbers_in trees name k → rows ≡ map shown_local (filter (is_of k.0 id) (trees locals_tree))
+pub local_there : (trees : Trees) (name id : List ℕ) (k : NumberValues) (rows : List Row) → IsThere numbers_in trees name k → rows ≡ map shown_local (filter (is_row_of_document k.0 id) (trees locals_tree))
     → option_map (λ (db : Database). local_at db id) (get (contents_in trees) name) ≡ Some (option_map local_shown (slice_get rows 0))
 local_there trees name id k rows t is =
     ap (option_map (λ (db : Database). local_at db id)) t.database
-    ∙ ap Some (local_found trees t.row id ∙ ap (λ (v : NumberValues). option_map local_of (slice_get (filter (is_of v.0 id) (trees locals_tree)) 0)) t.values
+    ∙ ap Some (local_found trees t.row id ∙ ap (λ (v : NumberValues). option_map local_of (slice_get (filter (is_row_of_document v.0 id) (trees locals_tree)) 0)) t.values
     ∙ first_shown shown_local local_shown local_of (λ r. refl) _ ∙ ap (λ l. option_map local_shown (slice_get l 0)) (sym is))
 
-pub local_intact : (trees : Trees) (p : Row → Bool) (rows : List Row) → IsLaid trees → rows ≡ map shown_local (filter p (trees locals_tree)) → AllByRecursion IsShownLocal rows
+pub local_intact : (trees : Trees) (p : Row → Bool) (rows : List Row) → IsWellFormed trees → rows ≡ map shown_local (filter p (trees locals_tree)) → AllByRecursion IsShownLocal rows
 local_intact trees p rows l is = subst (AllByRecursion IsShownLocal) (sym is) (all_map IsShownLocal shown_local _ (all-filter _ p _ (shown_locals trees l)))
 
 -- what a reader of a database answers where none was found

@@ -1,5 +1,5 @@
 -- What a store makes of writes that are committed together.
-use Rattle.sqlstore.proofs.Common.{Addition, AreAcceptable, AreDue, CommitFault, Damaged, Database, Failed, Ghosts, HasCleanDisk, Held, IfThere, IsHeld, IsUnwritten, List, Memory, NumberValues, Some, StoreFault, Trees, WasStore, ap, arith, contents_in, database_of, length, numbers_in, state, subst, sym, writings_in, ℕ, ℤ, ∥∥₁_elim, ◌+◌, ◌<◌, ◌≤◌, ◌^◌, ◌≡◌}
+use Rattle.sqlstore.proofs.Common.{Addition, AreAcceptable, AreDue, CommitFault, Damaged, Database, Failed, Ghosts, HasCleanDisk, Held, IfThere, IsHeld, IsUnwritten, List, Memory, NumberValues, Some, StoreFault, Trees, WasStore, ap, arith, contents_in, database_of_row, length, numbers_in, state, subst, sym, writings_in, ℕ, ℤ, ∥∥₁_elim, ◌+◌, ◌<◌, ◌≤◌, ◌^◌, ◌≡◌}
 use Rattle.std.specs.FinMap as finite
 use Rattle.store.specs.Contents.{IsThereWith}
 use Rattle.store.specs.Database as store
@@ -29,7 +29,7 @@ due_there all trees name k t acceptable = record {
 pub lacks_there : (all : List Addition) (trees : Trees) (name : List ℕ) (k : NumberValues) → IsThere numbers_in trees name k → ¬ (k.1 + length all < 2 ^ 63)
     → IsThereWith (finite.get (contents_in trees) name) (λ db. (d : store.Database) × (finite.get (contents_in trees) name ≡ Some d) × ¬ (d.length + length (writings_in db all) < 2 ^ 63))
 lacks_there all trees name k t lacks =
-    let db = database_of trees t.row in
+    let db = database_of_row trees t.row in
     let count : db.length ≡ k.1 = ap (λ (v : NumberValues). v.1) t.values in
     subst (λ o. IsThereWith o (λ db. (d : store.Database) × (finite.get (contents_in trees) name ≡ Some d) × ¬ (d.length + length (writings_in db all) < 2 ^ 63))) (sym t.database)
     (db, t.database, λ room. lacks (omega (arith, room, count, length-writings_in db all)))

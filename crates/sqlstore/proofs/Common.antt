@@ -24,7 +24,7 @@ pub use Rattle.store.specs.PageStructs.{id_page_of, sequence_page_of, sequence_r
 pub use Rattle.store.specs.Plain.{place_views}
 pub use Rattle.store.specs.declared.listing.SeqRange.{SeqRange}
 pub use Rattle.store.specs.declared.listing.SeqRow.{SeqRow}
-pub use Rattle.tables.proofs.Common.{Addition, all-slice_get, any_is_found, has_number, inside, AllByRecursion, AreAcceptable, Asks, Bool, Changes, Contents, Database, Document, Equal, Err, Error, Ghosts, Greater, HasCleanDisk, HasWritten, Held, HistoryContent, IdRow, IfErr, IfOk, IsBody, IsDatabaseRow, IsDocumentRow, IsLaid, IsLawful, IsListedDocument, IsPermutation, IsPermutation-sort_by, IsShownDatabase, IsShownLocal, IsStore, IsTrue, Less, List, LocalDocument, None, Ok, OnOk, OnlyLooks, Option, Ordering, Reads, Result, Revision, Row, Schema, SequenceRow, Some, TextMap, Trees, [], all-filter, all_both, all_map, all_weaker, and_parts, ap, append-nil, ap₂, arith, by_id, by_name, by_sequence, canonical, closed_security, column, comes_after, cond, contents_in, database_cells, database_of, db_of, dbs_tree, docs_tree, document_counts, document_of, drop, false, filter, filter-filter, filter-map, filter_all, filter_same, find, first_rows, get, has_all, history_at, history_in, id_of, in_sequence, inl, inr, int_lt, ints, is_database_name, is_document_id, is_in, is_lt, is_named, is_of, is_security, is_some, leaves_row, length, length-map, length_of, list_all, list_any, listed_counts, listed_document, listed_id, listed_mark, live_row, live_rows, local_of, locals_tree, map, map-append, map-map, meta_tree, name_of, nat_cmp, nat_list_cmp_total, nat_tests, negsuc, new_database, next_number, not, number_of, on_total, option_map, ordering_reverse, pos, refl, revs_tree, rows_of, rows_with_security, rules, same_int, schema, sequence_of, sequence_row, shown_database, shown_local, shown_name, shown_revision, slice_cmp, slice_get, sort_by, state, subst, suc, sym, true, with_all, with_cells, with_local, with_security, ℕ, ℤ, ∥∥₁_map, ◌&&◌, ◌++◌, ◌+◌, ◌-◌, ◌<◌, ◌^◌, ◌||◌, ◌∙◌, ◌∷◌, ◌≡◌, ◌≢◌, ◌≤◌, ◌⊎◌}
+pub use Rattle.tables.proofs.Common.{Addition, all-slice_get, any_is_found, has_number, inside, AllByRecursion, AreAcceptable, Asks, Bool, Changes, Contents, Database, Document, Equal, Err, Error, Ghosts, Greater, HasCleanDisk, HasWritten, Held, HistoryContent, IdRow, IfErr, IfOk, IsBody, IsDatabaseRow, IsDocumentRow, IsWellFormed, IsLawful, IsListedDocument, IsPermutation, IsPermutation-sort_by, IsShownDatabase, IsShownLocal, IsStore, IsTrue, Less, List, LocalDocument, None, Ok, OnOk, OnlyLooks, Option, Ordering, Reads, Result, Revision, Row, Schema, SequenceRow, Some, TextMap, Trees, [], all-filter, all_both, all_map, all_weaker, and_parts, ap, append-nil, ap₂, arith, by_id, by_name, by_sequence, canonical, closed_security, column, comes_after, cond, contents_in, database_cells, database_of_row, db_of, dbs_tree, docs_tree, document_counts, document_of_row, drop, false, filter, filter-filter, filter-map, filter_all, filter_same, find, first_rows, get, has_all, history_at, history_in_rows, id_of, in_sequence, inl, inr, int_lt, ints, is_database_name, is_document_id, is_row_of_database, is_lt, is_named, is_row_of_document, is_security, is_some, leaves_row, length, length-map, sequence_of_database, list_all, list_any, listed_counts, listed_document, listed_id, listed_mark, live_row, live_rows, local_of, locals_tree, map, map-append, map-map, meta_tree, name_of, nat_cmp, nat_list_cmp_total, nat_tests, negsuc, new_database, next_number, not, number_of, on_total, option_map, ordering_reverse, pos, refl, revs_tree, rows_of, rows_with_security, rules, same_int, schema, sequence_of_row, sequence_row, shown_database, shown_local, shown_name, shown_revision, slice_cmp, slice_get, sort_by, state, subst, suc, sym, true, with_all, with_cells, with_local, with_security, ℕ, ℤ, ∥∥₁_map, ◌&&◌, ◌++◌, ◌+◌, ◌-◌, ◌<◌, ◌^◌, ◌||◌, ◌∙◌, ◌∷◌, ◌≡◌, ◌≢◌, ◌≤◌, ◌⊎◌}
 pub use Rattle.tables.specs.Listings.{listed_sequence, listed_winner}
 pub use Rattle.tables.specs.Presence.{has_any}
 pub use Rattle.tables.specs.Shown.{local_shown}

@@ -1,5 +1,5 @@
 -- The rows of a page by id are those that the rows of documents between two bounds show.
-use Rattle.sqlstore.proofs.Common.{AllByRecursion, Bool, IdRow, IsLaid, IsListedDocument, List, None, Option, Ordering, Revision, Row, Some, Trees, [], all-filter, all_both, all_weaker, and_parts, ap, ap₂, arith, by_id, by_sequence, cond, count_by, docs_tree, drop, false, filter, first_rows, id_of, if_counted, in_direction, is_in, length, length-map, listed_by_id, listed_by_sequence, listed_document, listed_id, listed_mark, listed_winner, live_row, live_rows, map, nat_cmp, nat_list_cmp_total, not, on_total, option_map, pos, refl, row_counts, rows_within, sequence_of, slice_cmp, sort_by, subst, sym, true, up_to_limit, ℕ, ℤ, ◌&&◌, ◌++◌, ◌+◌, ◌<◌, ◌^◌, ◌∙◌, ◌∷◌, ◌≡◌, ◌≤◌, ◌||◌}
+use Rattle.sqlstore.proofs.Common.{AllByRecursion, Bool, IdRow, IsWellFormed, IsListedDocument, List, None, Option, Ordering, Revision, Row, Some, Trees, [], all-filter, all_both, all_weaker, and_parts, ap, ap₂, arith, by_id, by_sequence, cond, count_by, docs_tree, drop, false, filter, first_rows, id_of, if_counted, in_direction, is_row_of_database, length, length-map, listed_by_id, listed_by_sequence, listed_document, listed_id, listed_mark, listed_winner, live_row, live_rows, map, nat_cmp, nat_list_cmp_total, not, on_total, option_map, pos, refl, row_counts, rows_within, sequence_of_row, slice_cmp, sort_by, subst, sym, true, up_to_limit, ℕ, ℤ, ◌&&◌, ◌++◌, ◌+◌, ◌<◌, ◌^◌, ◌∙◌, ◌∷◌, ◌≡◌, ◌≤◌, ◌||◌}
 use Rattle.std.proofs.Common.{min, reverse}
 use Rattle.std.proofs.lemmas.Bool.{not-true}
 use Rattle.std.proofs.lemmas.Cmp.{nat_cmp_total}
@@ -203,7 +203,7 @@ live_left p (s ∷ rows) =
 
 -- ---- the rows of a database
 
-module _ (trees : Trees) (db : ℤ) (l : IsLaid trees) where
+module _ (trees : Trees) (db : ℤ) (l : IsWellFormed trees) where
   abbrev docs : List Row
   docs = trees docs_tree
 
@@ -220,12 +220,12 @@ module _ (trees : Trees) (db : ℤ) (l : IsLaid trees) where
   all_texts = texts all all_intact
 
   -- as many rows of a kind are stored as a list has, in whatever order
-  pub counted : (by : Row → Row → Ordering) → IsTotalOrder by → (q : Row → Bool) → length (filter (λ r. is_in db r && q (listed_document r)) docs) ≡ count_by q (map listed_document (sort_by by (filter (is_in db) docs)))
+  pub counted : (by : Row → Row → Ordering) → IsTotalOrder by → (q : Row → Bool) → length (filter (λ r. is_row_of_database db r && q (listed_document r)) docs) ≡ count_by q (map listed_document (sort_by by (filter (is_row_of_database db) docs)))
   counted by total q =
-      let found = filter (λ r. is_in db r && q (listed_document r)) docs in
+      let found = filter (λ r. is_row_of_database db r && q (listed_document r)) docs in
       let long : length found ≡ length (map listed_document (sort_by by found)) =
       omega (arith, length-map (sort_by by found) listed_document, length_permutation (sort_by by found) found (IsPermutation-sort_by by total found)) in
-      long ∙ ap length (left_in_order by total db q docs) ∙ length-filter q (map listed_document (sort_by by (filter (is_in db) docs)))
+      long ∙ ap length (left_in_order by total db q docs) ∙ length-filter q (map listed_document (sort_by by (filter (is_row_of_database db) docs)))
 
   -- ---- between two bounds
 
@@ -244,7 +244,7 @@ module _ (trees : Trees) (db : ℤ) (l : IsLaid trees) where
 
     untied : IsAscending (λ a b. is_eq (by_id a b) ≡ false) (filter (is_marked_between db false low high) docs)
     untied =
-        subst (IsAscending (λ a b. is_eq (by_id a b) ≡ false)) (filter_both (λ r. passes false low high (listed_document r)) (is_in db) docs)
+        subst (IsAscending (λ a b. is_eq (by_id a b) ≡ false)) (filter_both (λ r. passes false low high (listed_document r)) (is_row_of_database db) docs)
         (ascending-filter (λ a b. is_eq (by_id a b) ≡ false) (λ r. passes false low high (listed_document r)) (documents_of trees db) (ids_apart trees db l))
 
     directed : (descending : Bool) → map listed_document (sort_by (by_id_in descending) (filter (is_marked_between db false low high) docs)) ≡ in_direction descending found
@@ -348,7 +348,7 @@ module _ (trees : Trees) (db : ℤ) (l : IsLaid trees) where
 
   pub all_counted : (deleted : Bool) → marked_count db deleted [] (255 ∷ []) docs ≡ all_count trees db deleted
   all_counted deleted =
-      counted by_sequence (on_total sequence_of nat_cmp_total) (passes deleted [] (255 ∷ []))
+      counted by_sequence (on_total sequence_of_row nat_cmp_total) (passes deleted [] (255 ∷ []))
       ∙ count_same (passes deleted [] (255 ∷ [])) (λ s. has_mark deleted (listed_mark s)) (listed_by_sequence trees db)
       (all_weaker IsListedDocument (λ s. passes deleted [] (255 ∷ []) s ≡ has_mark deleted (listed_mark s))
       (λ s k. ap (λ b. has_mark deleted (listed_mark s) && b) (all_between (listed_id s) (text_of_cell (column s 0) k.id)) ∙ alone (has_mark deleted (listed_mark s))) (listed_by_sequence trees db) (listed_intact by_sequence trees db l))

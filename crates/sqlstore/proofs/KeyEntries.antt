@@ -1,5 +1,5 @@
 -- A page by key is that of the entries of its index.
-use Rattle.sqlstore.proofs.Common.{AllByRecursion, Coded, Coded-set, Damaged, Err, Failed, Ghosts, IfErr, IfOk, IndexPlace, IsLaid, KeyPage, List, Memory, NoDatabase, None, NumberValues, Ok, Option, Result, Row, Some, SqlStore, Stands, StoreFault, Trees, [], ap, code_by, coded_list, coded_option, coded×, coded_ℕ, coded_ℤ, contents_in, database_of, dbs_tree, drop, filter, index_rows, inl, inr, is_honest, key_page, length, map, numbers_in, is_named, option_map, place_code, refl, slice_get, subst, sym, trees_of, ℕ, ℤ, ∥∥₁_elim, ∥∥₁_map, ◌+◌, ◌<◌, ◌^◌, ◌∙◌, ◌∷◌, ◌≡◌, ◌≤◌, arith, up_to_limit, if_counted, page_of_keys}
+use Rattle.sqlstore.proofs.Common.{AllByRecursion, Coded, Coded-set, Damaged, Err, Failed, Ghosts, IfErr, IfOk, IndexPlace, IsWellFormed, KeyPage, List, Memory, NoDatabase, None, NumberValues, Ok, Option, Result, Row, Some, SqlStore, Stands, StoreFault, Trees, [], ap, code_by, coded_list, coded_option, coded×, coded_ℕ, coded_ℤ, contents_in, database_of_row, dbs_tree, drop, filter, index_rows, inl, inr, is_honest, key_page, length, map, numbers_in, is_named, option_map, place_code, refl, slice_get, subst, sym, trees_of, ℕ, ℤ, ∥∥₁_elim, ∥∥₁_map, ◌+◌, ◌<◌, ◌^◌, ◌∙◌, ◌∷◌, ◌≡◌, ◌≤◌, arith, up_to_limit, if_counted, page_of_keys}
 use Rattle.std.proofs.Common.{min, true}
 use Rattle.std.specs.FinMap as finite
 use Rattle.std.specs.List.{count_by}
@@ -152,23 +152,23 @@ pub record HasPage (range : KeyRange) (trees : Trees) (name design index : List 
   pub entries : AreEntriesAt declaration places (trees entries_tree)
   pub page : option_map (λ (db : Database). page_of_keys range design index db) (finite.get (contents_in trees) name) ≡ Some (Some (key_page range places))
 
-module _ (range : KeyRange) (trees : Trees) (name : List ℕ) (k : NumberValues) (l : IsLaid trees) (is : IsIndexed trees) (t : IsThere numbers_in trees name k) (design index : List ℕ) where
+module _ (range : KeyRange) (trees : Trees) (name : List ℕ) (k : NumberValues) (l : IsWellFormed trees) (is : IsIndexed trees) (t : IsThere numbers_in trees name k) (design index : List ℕ) where
   abbrev stored : Option Row
   stored = find (is_declaration_of k.0 design index) (trees decls_tree)
 
   page_of : (o : Option (List (List ℕ))) → option_map fields_of stored ≡ o
-      → option_map (λ (db : Database). page_of_keys range design index db) (finite.get (contents_in trees) name) ≡ Some (option_map (λ fields. key_page range (index_rows fields (database_of trees t.row))) o)
+      → option_map (λ (db : Database). page_of_keys range design index db) (finite.get (contents_in trees) name) ≡ Some (option_map (λ fields. key_page range (index_rows fields (database_of_row trees t.row))) o)
   page_of o has =
       key_page_by trees name k ∣ l ∣₁ t range design index
-      ∙ ap (λ x. Some (option_map (λ fields. key_page range (index_rows fields (database_of trees t.row))) x)) (sym (is.declared k.0 design index) ∙ has)
+      ∙ ap (λ x. Some (option_map (λ fields. key_page range (index_rows fields (database_of_row trees t.row))) x)) (sym (is.declared k.0 design index) ∙ has)
 
   pub has_page : (x : Declared) → Some x ≡ option_map declared_at stored → HasPage range trees name design index x.number
   has_page x has =
       let d = mapped_some declared_at stored x (sym has) in
       let own : find (is_declaration_of (number_of t.row) design index) (trees decls_tree) ≡ Some d.0 = ap (λ (v : NumberValues). find (is_declaration_of v.0 design index) (trees decls_tree)) t.values ∙ d.1 in
       record {
-        places = index_rows (fields_of d.0) (database_of trees t.row);
-        entries = subst (λ n. AreEntriesAt n (index_rows (fields_of d.0) (database_of trees t.row)) (trees entries_tree)) (ap (λ (y : Declared). y.number) d.2) (entries_at trees l is t.row d.0 design index own);
+        places = index_rows (fields_of d.0) (database_of_row trees t.row);
+        entries = subst (λ n. AreEntriesAt n (index_rows (fields_of d.0) (database_of_row trees t.row)) (trees entries_tree)) (ap (λ (y : Declared). y.number) d.2) (entries_at trees l is t.row d.0 design index own);
         page = page_of (Some (fields_of d.0)) (ap (option_map fields_of) d.1);
       }
 
@@ -191,7 +191,7 @@ pub declared_set : (a b : Option Declared) → IsProp (a ≡ b)
 declared_set = Coded-set (coded_option (code_by (ℤ × List (List ℕ)) (coded× coded_ℤ (coded_list (coded_list coded_ℕ))) (λ d. (d.number, d.fields)) (λ p. record { number = p.0; fields = p.1 }) (λ _. refl)))
 
 -- the rows of indexes of an honest store are those of what is stored
-pub indexed : {S : Type 0} (g : Ghosts S) (s : SqlStore S g) → is_honest g s → ∥ IsLaid (trees_of g s) × IsIndexed (trees_of g s) ∥₁
+pub indexed : {S : Type 0} (g : Ghosts S) (s : SqlStore S g) → is_honest g s → ∥ IsWellFormed (trees_of g s) × IsIndexed (trees_of g s) ∥₁
 indexed g s honest = ∥∥₁_map (s.standing.held honest.0 honest.1) (λ holds. (holds.store.laid, holds.indexed))
 
 -- ---- what is found of an index of a store

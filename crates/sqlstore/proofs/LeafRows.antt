@@ -1,6 +1,6 @@
 -- What the numbers and hashes of a document's revisions say of its leaves.
 use Rattle.sqlstore.proofs.Answering.{answered}
-use Rattle.sqlstore.proofs.Common.{AllByRecursion, Answers, Bool, Coded-set, Damaged, Err, Ghosts, IsLost, IsRead, Memory, Result, SqlStore, StoreFault, is_honest, refl, subst, sym, IsLaid, IsPermutation, List, Option, Revision, Row, Some, Trees, [], all-filter, all_map, ap, coded_list, coded_option, filter, history_in, is_of, map, revs_tree, ℕ, ℤ, ◌∙◌, ◌∷◌, ◌≡◌}
+use Rattle.sqlstore.proofs.Common.{AllByRecursion, Answers, Bool, Coded-set, Damaged, Err, Ghosts, IsLost, IsRead, Memory, Result, SqlStore, StoreFault, is_honest, refl, subst, sym, IsWellFormed, IsPermutation, List, Option, Revision, Row, Some, Trees, [], all-filter, all_map, ap, coded_list, coded_option, filter, history_in_rows, is_row_of_document, map, revs_tree, ℕ, ℤ, ◌∙◌, ◌∷◌, ◌≡◌}
 use Rattle.sqlite_trees.proofs.ListLemmas.{all-permutation}
 use Rattle.tables.proofs.Laid.{shown_hashes}
 use Rattle.tables.proofs.SinglePath.{single_shown}
@@ -13,12 +13,12 @@ use Rattle.sqlstore.specs.inner.Reading.{EndsPath}
 pub revs_set : IsSet (Option (List Revision))
 revs_set = Coded-set (coded_option (coded_list revision_code))
 
-pub hashes_intact : (trees : Trees) (p : Row → Bool) (rows : List Row) → IsLaid trees → IsPermutation (map shown_hash (filter p (trees revs_tree))) rows → AllByRecursion IsShownHash rows
+pub hashes_intact : (trees : Trees) (p : Row → Bool) (rows : List Row) → IsWellFormed trees → IsPermutation (map shown_hash (filter p (trees revs_tree))) rows → AllByRecursion IsShownHash rows
 hashes_intact trees p rows l same = all-permutation IsShownHash _ rows same (all_map IsShownHash shown_hash _ (all-filter _ p _ (shown_hashes trees l)))
 
 -- the revision of the last row is the only leaf where its number is that of the rows
-pub path_end_alone : (trees : Trees) (db : ℤ) (id : List ℕ) (rows : List Row) (rev : Revision) → IsLaid trees → IsPermutation (map shown_hash (filter (is_of db id) (trees revs_tree))) rows → EndsPath rev rows
-    → Some (leaves (history_in (trees revs_tree) db id)) ≡ Some (rev ∷ [])
+pub path_end_alone : (trees : Trees) (db : ℤ) (id : List ℕ) (rows : List Row) (rev : Revision) → IsWellFormed trees → IsPermutation (map shown_hash (filter (is_row_of_document db id) (trees revs_tree))) rows → EndsPath rev rows
+    → Some (leaves (history_in_rows (trees revs_tree) db id)) ≡ Some (rev ∷ [])
 path_end_alone trees db id rows rev l same ends =
     ap Some (single_shown trees l db id rows _ ends.row same ends.last (ap (λ (r : Revision). r.number) ends.named ∙ ends.counted) ∙ ap (λ (r : Revision). r ∷ []) ends.named)
 

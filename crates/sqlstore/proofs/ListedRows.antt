@@ -1,5 +1,5 @@
 -- The rows of a list of documents: that they are intact, and what pages they make.
-use Rattle.sqlstore.proofs.Common.{All, AllByRecursion, Bool, Coded, Coded-set, HistoryContent, IdRow, IndexPlace, IsDatabaseRow, IsDocumentRow, IsLaid, IsListedDocument, IsSequenceRow, List, None, Option, Ordering, Revision, Row, SeqRange, SeqRow, SequenceRow, Some, Trees, [], all-filter, all_both, all_map, any_is_found, ap, arith, by_sequence, code_by, coded_bool, coded_list, coded_option, coded_ℕ, coded×, cond, db_of, dbs_tree, docs_tree, drop, drop_all, false, filter, get_or, get_or-map, has_number, is_in, is_some, last_sequence, later_rows, leaves_row, length, length-map, listed_by_sequence, listed_document, map, map-map, nat_lt, page_with_leaves, place_code, refl, revision_code, revs_tree, sequence_of, sequence_page, sequence_row, sort_by, sym, true, up_to_limit, with_leaves, ℕ, ℤ, ◌++◌, ◌+◌, ◌<◌, ◌^◌, ◌∙◌, ◌∷◌, ◌≡◌, ◌≤◌}
+use Rattle.sqlstore.proofs.Common.{All, AllByRecursion, Bool, Coded, Coded-set, HistoryContent, IdRow, IndexPlace, IsDatabaseRow, IsDocumentRow, IsWellFormed, IsListedDocument, IsSequenceRow, List, None, Option, Ordering, Revision, Row, SeqRange, SeqRow, SequenceRow, Some, Trees, [], all-filter, all_both, all_map, any_is_found, ap, arith, by_sequence, code_by, coded_bool, coded_list, coded_option, coded_ℕ, coded×, cond, db_of, dbs_tree, docs_tree, drop, drop_all, false, filter, get_or, get_or-map, has_number, is_row_of_database, is_some, last_sequence, later_rows, leaves_row, length, length-map, listed_by_sequence, listed_document, map, map-map, nat_lt, page_with_leaves, place_code, refl, revision_code, revs_tree, sequence_of_row, sequence_page, sequence_row, sort_by, sym, true, up_to_limit, with_leaves, ℕ, ℤ, ◌++◌, ◌+◌, ◌<◌, ◌^◌, ◌∙◌, ◌∷◌, ◌≡◌, ◌≤◌}
 use Rattle.std.proofs.lemmas.List.{append_assoc, append-nil, take-map}
 use Rattle.store.specs.contracts.listing.DocumentCounts as document_counts
 use Rattle.store.specs.contracts.listing.IdRow as id_row
@@ -8,7 +8,7 @@ use Rattle.store.specs.declared.listing.RowCounts.{RowCounts}
 use Rattle.tables.proofs.ListingRows.{rows_of_a_listing}
 use Rattle.tables.proofs.RowMaps.{find_found}
 use Rattle.tables.proofs.Sorted.{all_sorted}
-use Rattle.tables.specs.Layout.{database_at}
+use Rattle.tables.specs.Layout.{database_row_at}
 
 -- ---- rows are told apart by numbers
 
@@ -37,26 +37,26 @@ places_set = Coded-set (coded_list place_code)
 
 -- ---- the rows are intact
 
-pub listed_intact : (by : Row → Row → Ordering) (trees : Trees) (db : ℤ) → IsLaid trees → AllByRecursion IsListedDocument (map listed_document (sort_by by (filter (is_in db) (trees docs_tree))))
+pub listed_intact : (by : Row → Row → Ordering) (trees : Trees) (db : ℤ) → IsWellFormed trees → AllByRecursion IsListedDocument (map listed_document (sort_by by (filter (is_row_of_database db) (trees docs_tree))))
 listed_intact by trees db l =
-    all_map IsListedDocument listed_document _ (all_sorted (λ r. IsListedDocument (listed_document r)) by _ (all-filter (λ r. IsListedDocument (listed_document r)) (is_in db) _ (rows_of_a_listing trees l)))
+    all_map IsListedDocument listed_document _ (all_sorted (λ r. IsListedDocument (listed_document r)) by _ (all-filter (λ r. IsListedDocument (listed_document r)) (is_row_of_database db) _ (rows_of_a_listing trees l)))
 
 some_there : {A : Type 0} (o : Option A) → is_some o ≡ true → (x : A) × (o ≡ Some x)
 some_there None h = absurd (cc)
 some_there (Some x) h = (x, refl)
 
-small_sequence : (trees : Trees) → IsLaid trees → (r : Row) → IsDocumentRow trees r → sequence_of r < 2 ^ 63
+small_sequence : (trees : Trees) → IsWellFormed trees → (r : Row) → IsDocumentRow trees r → sequence_of_row r < 2 ^ 63
 small_sequence trees l r k =
-    let d = some_there (database_at (trees dbs_tree) (db_of r)) (sym (any_is_found (has_number (db_of r)) (trees dbs_tree)) ∙ k.there) in
+    let d = some_there (database_row_at (trees dbs_tree) (db_of r)) (sym (any_is_found (has_number (db_of r)) (trees dbs_tree)) ∙ k.there) in
     let bounded = (find_found IsDatabaseRow (has_number (db_of r)) (trees dbs_tree) d.0 l.dbs d.1).0.bounded in
     omega (arith, k.within d.0 d.1, bounded)
 
-pub sequences_intact : (trees : Trees) (db : ℤ) → IsLaid trees → AllByRecursion IsSequenceRow (listed_by_sequence trees db)
+pub sequences_intact : (trees : Trees) (db : ℤ) → IsWellFormed trees → AllByRecursion IsSequenceRow (listed_by_sequence trees db)
 sequences_intact trees db l =
     let P : Row → Type 0 = λ r. IsSequenceRow (listed_document r) in
     let each : AllByRecursion (λ r. IsSequenceRow (listed_document r)) (trees docs_tree) =
     all_both (λ r. IsListedDocument (listed_document r)) (IsDocumentRow trees) P (λ r listed k. record { listed = listed; small = small_sequence trees l r k }) (trees docs_tree) (rows_of_a_listing trees l) l.docs in
-    all_map IsSequenceRow listed_document _ (all_sorted P by_sequence _ (all-filter P (is_in db) _ each))
+    all_map IsSequenceRow listed_document _ (all_sorted P by_sequence _ (all-filter P (is_row_of_database db) _ each))
 
 -- ---- leaves in the place of winners
 
@@ -87,8 +87,8 @@ module _ (history : List ℕ → HistoryContent) where
       let last = ap (last_sequence _) rows ∙ last_kept _ (later_rows range rs) in
       λ i. record { rows = rows i; last = last i; sequence = sequence; counts = counts }
 
-pub leaves_rows : (trees : Trees) (db : ℤ) (rows : List Row) → map (leaves_row (trees revs_tree) db) rows ≡ map (with_leaves (Rattle.tables.specs.Rows.history_in (trees revs_tree) db)) (map sequence_row rows)
-leaves_rows trees db rows = sym (map-map (with_leaves (Rattle.tables.specs.Rows.history_in (trees revs_tree) db)) sequence_row rows)
+pub leaves_rows : (trees : Trees) (db : ℤ) (rows : List Row) → map (leaves_row (trees revs_tree) db) rows ≡ map (with_leaves (Rattle.tables.specs.Rows.history_in_rows (trees revs_tree) db)) (map sequence_row rows)
+leaves_rows trees db rows = sym (map-map (with_leaves (Rattle.tables.specs.Rows.history_in_rows (trees revs_tree) db)) sequence_row rows)
 
 -- ---- a list that is made of another, an element at a time
 

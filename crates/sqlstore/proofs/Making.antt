@@ -3,7 +3,7 @@ use Rattle.index.specs.Shown.{declared}
 use Rattle.index.specs.declared.declaration.Declaration.{Declaration}
 use Rattle.transactions.specs.Indexing.{AreAllIndexes}
 use Rattle.sqlstore.proofs.KnownCounts.{uncounted}
-use Rattle.sqlstore.proofs.Common.{Addition, AreDue, Changes, Clears, Database, FoundValues, Global, HasNumber, HasWritten, IfSome, IsBody, IsKnown, IsLawful, IsTrue, KnownDatabase, List, LocalDocument, None, Option, Replaces, Some, Trees, Vec, ap, ap₂, at_sequence, canonical, closed_security, contents_in, database_cells, database_of, dbs_tree, filter, found_in, get, insert, inside, is_database_name, is_document_id, is_named, is_security, known_values, length, length_of, map, new_database, option_map, pos, refl, remove, rows_with_security, slice_get, subst, sym, with_all, with_cells, with_local, with_security, writings_in, ℕ, ℤ, ◌+◌, ◌<◌, ◌^◌, ◌∙◌, ◌≡◌}
+use Rattle.sqlstore.proofs.Common.{Addition, AreDue, Changes, Clears, Database, FoundValues, Global, HasNumber, HasWritten, IfSome, IsBody, IsKnown, IsLawful, IsTrue, KnownDatabase, List, LocalDocument, None, Option, Replaces, Some, Trees, Vec, ap, ap₂, at_sequence, canonical, closed_security, contents_in, database_cells, database_of_row, dbs_tree, filter, found_in, get, insert, inside, is_database_name, is_document_id, is_named, is_security, known_values, length, sequence_of_database, map, new_database, option_map, pos, refl, remove, rows_with_security, slice_get, subst, sym, with_all, with_cells, with_local, with_security, writings_in, ℕ, ℤ, ◌+◌, ◌<◌, ◌^◌, ◌∙◌, ◌≡◌}
 use Rattle.couch_json.specs.Value.{Value}
 use Rattle.std.proofs.lemmas.Bool.{false_from_ne_true}
 use Rattle.std.proofs.lemmas.Slice.Eq.{bytes_eq-Decides}
@@ -96,7 +96,7 @@ module _ (new : Database) (name : List ℕ) where
           (record { store = made.0; indexed = replaced_indexed _ _ _ _ old new was.store.schema_is c was.indexed }, made.1)
 
     pub appends : {X : Type 0} (all : List Addition) (number : ℤ) (sequence : ℕ) → AreDue all name number sequence last
-        → ((due : AreDue all name number sequence old.trees) → HasWritten (writings_in (database_of old.trees due.row) all) name due.row old new × IsIndexed new.trees × X) → IsIndexedStore new × IsWritten all old
+        → ((due : AreDue all name number sequence old.trees) → HasWritten (writings_in (database_of_row old.trees due.row) all) name due.row old new × IsIndexed new.trees × X) → IsIndexedStore new × IsWritten all old
     appends all number sequence due writes =
         let here = subst (AreDue all name number sequence) (sym same) due in
         let w = (writes here).0 in
@@ -166,7 +166,7 @@ module _ (new : Database) (name : List ℕ) where
             (λ other out. ap (λ m. get m other) made.1 ∙ removed_other (contents_in old.trees) name other out)
 
       pub appends_beside : (all : List Addition) (number : ℤ) (sequence : ℕ) (due : AreDue all name number sequence old.trees)
-          → HasWritten (writings_in (database_of old.trees due.row) all) name due.row old new × IsIndexed new.trees → KeepsOthers number old new → AreKnown new.trees ks
+          → HasWritten (writings_in (database_of_row old.trees due.row) all) name due.row old new × IsIndexed new.trees → KeepsOthers number old new → AreKnown new.trees ks
       appends_beside all number sequence due writes kept =
           let w = writes.0 in
           let made : IsIndexedStore new = record { store = w.store; indexed = writes.1 } in
@@ -175,7 +175,7 @@ module _ (new : Database) (name : List ℕ) where
 
     -- what was known of the database is known of it at its new sequence, with its indexes
     pub advances : (all : List Addition) (number : ℤ) (sequence : ℕ) (to : Vec Declaration Global) → AreDue all name number sequence last
-        → ((due : AreDue all name number sequence old.trees) → HasWritten (writings_in (database_of old.trees due.row) all) name due.row old new × IsIndexed new.trees × AreAllIndexes (map declared to.items) number new.trees)
+        → ((due : AreDue all name number sequence old.trees) → HasWritten (writings_in (database_of_row old.trees due.row) all) name due.row old new × IsIndexed new.trees × AreAllIndexes (map declared to.items) number new.trees)
         → (k : KnownDatabase) → k.name ≡ name → IsKnown last (Some k) → IsKnown new.trees (Some (at_sequence (sequence + length all) to k))
     advances all number sequence to due writes k named known =
         let here = subst (AreDue all name number sequence) (sym same) due in
@@ -183,7 +183,7 @@ module _ (new : Database) (name : List ℕ) where
         let known_row : Some (found_in here.row) ≡ Some (known_values k) =
         ap (option_map found_in) (sym here.first) ∙ ap₂ (λ (t : Trees) n. option_map found_in (slice_get (filter (is_named n) (t dbs_tree)) 0)) same (sym named) ∙ known.row in
         let values : found_in here.row ≡ known_values k = inside _ _ known_row in
-        let count : length_of here.row + length (writings_in (database_of old.trees here.row) all) ≡ sequence + length all = ap₂ ◌+◌ here.counted (length-writings_in (database_of old.trees here.row) all) in
+        let count : sequence_of_database here.row + length (writings_in (database_of_row old.trees here.row) all) ≡ sequence + length all = ap₂ ◌+◌ here.counted (length-writings_in (database_of_row old.trees here.row) all) in
         record {
           row = ap (λ n. option_map found_in (slice_get (filter (is_named n) (new.trees dbs_tree)) 0)) named ∙ ap (option_map found_in) w.row ∙ (λ i. Some ((values i).0, (values i).1, count i));
           counts = uncounted new.trees (at_sequence (sequence + length all) to k) refl refl;

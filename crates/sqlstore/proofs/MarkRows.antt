@@ -1,6 +1,6 @@
 -- What the rows of documents say of their marks, and what is counted of them.
 use Rattle.std.proofs.Common.{ap₂}
-use Rattle.sqlstore.proofs.Common.{Addition, Bool, Database, HasWritten, IfSome, IsDocumentRow, IsLaid, List, None, Option, Row, Some, Trees, [], addition_of, additions, ap, database_of, db_of, docs_tree, document_of, find, history_in, id_of, is_of, list_any, map-map, number_of, option_map, pos, refl, revs_tree, subst, sym, writings_in, ℕ, ℤ, ◌∙◌, ◌≡◌}
+use Rattle.sqlstore.proofs.Common.{Addition, Bool, Database, HasWritten, IfSome, IsDocumentRow, IsWellFormed, List, None, Option, Row, Some, Trees, [], addition_of, additions, ap, database_of_row, db_of, docs_tree, document_of_row, find, history_in_rows, id_of, is_row_of_document, list_any, map-map, number_of, option_map, pos, refl, revs_tree, subst, sym, writings_in, ℕ, ℤ, ◌∙◌, ◌≡◌}
 use Rattle.std.specs.FinMap as finite
 use Rattle.std.specs.Prelude.{bytes_eq}
 use Rattle.sqlite_keyed.proofs.ListLemmas.{slice_get-filter}
@@ -26,23 +26,23 @@ use Rattle.sqlstore.proofs.LiveIds.{live_at, ranked_same}
 use Rattle.sqlstore.proofs.OtherKnown.{counted_there}
 use Rattle.std.proofs.lemmas.List.Sorted.{IsPermutation-sym}
 
-module _ (trees : Trees) (db : ℤ) (l : IsLaid trees) where
+module _ (trees : Trees) (db : ℤ) (l : IsWellFormed trees) where
   -- the mark of a winner is that of the document
-  pub mark_found : (id : List ℕ) → option_map (λ (w : MarkedRev). w.deleted) (marked_winner (history_in (trees revs_tree) db id)) ≡ mark_of (finite.get (documents_at trees db) id)
+  pub mark_found : (id : List ℕ) → option_map (λ (w : MarkedRev). w.deleted) (marked_winner (history_in_rows (trees revs_tree) db id)) ≡ mark_of (finite.get (documents_at trees db) id)
   mark_found id =
-      by (find (is_of db id) (trees docs_tree)) refl
-      ∙ sym (ap mark_of (get_id db id (document_of (trees revs_tree)) (trees docs_tree) ∙ ap (option_map (document_of (trees revs_tree))) (slice_get-filter (is_of db id) (trees docs_tree))))
+      by (find (is_row_of_document db id) (trees docs_tree)) refl
+      ∙ sym (ap mark_of (get_id db id (document_of_row (trees revs_tree)) (trees docs_tree) ∙ ap (option_map (document_of_row (trees revs_tree))) (slice_get-filter (is_row_of_document db id) (trees docs_tree))))
     where
-      by : (o : Option Row) → find (is_of db id) (trees docs_tree) ≡ o → option_map (λ (w : MarkedRev). w.deleted) (marked_winner (history_in (trees revs_tree) db id)) ≡ mark_of (option_map (document_of (trees revs_tree)) o)
+      by : (o : Option Row) → find (is_row_of_document db id) (trees docs_tree) ≡ o → option_map (λ (w : MarkedRev). w.deleted) (marked_winner (history_in_rows (trees revs_tree) db id)) ≡ mark_of (option_map (document_of_row (trees revs_tree)) o)
       by None none =
           ap (λ h. option_map (λ (w : MarkedRev). w.deleted) (marked_winner h)) (unwritten trees db id l none)
           ∙ ap (λ o. option_map (λ (w : MarkedRev). w.deleted) (option_map (marked_revision finite.empty) o)) no_winner
       by (Some r) is =
-          let found = find_found (IsDocumentRow trees) (is_of db id) (trees docs_tree) r l.docs is in
+          let found = find_found (IsDocumentRow trees) (is_row_of_document db id) (trees docs_tree) r l.docs is in
           let own = of_these db id r found.1 in
           let w = stored_winner trees l.revs r found.0 in
-          let H = history_in (trees revs_tree) (db_of r) (id_of r) in
-          ap₂ (λ (n : ℤ) (i : List ℕ). option_map (λ (w : MarkedRev). w.deleted) (marked_winner (history_in (trees revs_tree) n i))) (sym own.0) (sym own.1)
+          let H = history_in_rows (trees revs_tree) (db_of r) (id_of r) in
+          ap₂ (λ (n : ℤ) (i : List ℕ). option_map (λ (w : MarkedRev). w.deleted) (marked_winner (history_in_rows (trees revs_tree) n i))) (sym own.0) (sym own.1)
           ∙ ap (λ o. option_map (λ (w : MarkedRev). w.deleted) (option_map (marked_revision H) o)) w.1
           ∙ sym (ap (λ o. Some (is_gone_by H o)) w.1)
 
@@ -66,9 +66,9 @@ module _ (trees : Trees) (db : ℤ) (l : IsLaid trees) where
 -- ---- what writes leave
 
 -- the documents that are not written are as they were
-pub written_elsewhere : (ws : List Write) (name : List ℕ) (r : Row) (n : ℤ) (old new : Database) → number_of r ≡ n → HasWritten (writings_in (database_of old.trees r) (additions ws)) name r old new
+pub written_elsewhere : (ws : List Write) (name : List ℕ) (r : Row) (n : ℤ) (old new : Database) → number_of r ≡ n → HasWritten (writings_in (database_of_row old.trees r) (additions ws)) name r old new
     → KeepsElsewhere (ids_of ws) (documents_at old.trees n) (documents_at new.trees n)
 written_elsewhere ws name r n old new numbered done =
     subst (λ m. KeepsElsewhere (ids_of ws) (documents_at old.trees m) (documents_at new.trees m)) numbered (λ id none.
     ap (λ (d : store.Database). finite.get d.documents id) done.database
-    ∙ kept_elsewhere (additions ws) (database_of old.trees r) id (ap (list_any (λ k. bytes_eq k id)) (map-map (λ (a : Addition). a.id) addition_of ws) ∙ none))
+    ∙ kept_elsewhere (additions ws) (database_of_row old.trees r) id (ap (list_any (λ k. bytes_eq k id)) (map-map (λ (a : Addition). a.id) addition_of ws) ∙ none))

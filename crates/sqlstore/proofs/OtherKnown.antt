@@ -1,6 +1,6 @@
 -- What is known of a database after another one was changed, or after a table was that says nothing of it.
 use Rattle.std.specs.Prelude.{if◌then◌else◌}
-use Rattle.sqlstore.proofs.Common.{AllByRecursion, Bool, Contents, IsKnown, IfSome, IsLaid, KnownDatabase, List, None, Option, Row, Some, Trees, [], ap, by_sequence, contents_in, database_of, dbs_tree, docs_tree, false, filter, found_in, get, insert, inside, is_in, is_named, known_values, listed_document, listed_mark, map, nat_list_cmp_total, number_of, option_map, remove, slice_get, sort_by, subst, sym, true, ℕ, ◌∙◌, ◌∷◌, ◌≡◌, ◌≢◌}
+use Rattle.sqlstore.proofs.Common.{AllByRecursion, Bool, Contents, IsKnown, IfSome, IsWellFormed, KnownDatabase, List, None, Option, Row, Some, Trees, [], ap, by_sequence, contents_in, database_of_row, dbs_tree, docs_tree, false, filter, found_in, get, insert, inside, is_row_of_database, is_named, known_values, listed_document, listed_mark, map, nat_list_cmp_total, number_of, option_map, remove, slice_get, sort_by, subst, sym, true, ℕ, ◌∙◌, ◌∷◌, ◌≡◌, ◌≢◌}
 use Rattle.std.specs.FinMap as finite
 use Rattle.index.specs.Rows.{count_of, is_at_home}
 use Rattle.index.specs.Shown.{declared, declared_at}
@@ -8,7 +8,7 @@ use Rattle.index.specs.declared.declaration.Declaration.{Declaration}
 use Rattle.sqlstore.proofs.Common.{Global, Vec}
 use Rattle.ranks.specs.Counts.{AreRanksOf}
 use Rattle.std.specs.Prelude.{◌&&◌}
-use Rattle.tables.specs.Rows.{id_of, is_gone as is_gone_row}
+use Rattle.tables.specs.Rows.{id_of, is_gone_row as is_gone_row}
 use Rattle.sqlstore.proofs.LiveIds.{live_there, ranked_same}
 use Rattle.sqlstore.specs.inner.Listing.{all_count, document_count, live_ids}
 use Rattle.sqlstore.specs.inner.Marks.{live_keys}
@@ -30,18 +30,18 @@ use Rattle.tables.specs.Schema.{decls_tree, entries_tree}
 use Rattle.transactions.specs.Indexing.{AreKnownIndexes}
 
 -- the rows of documents are as many as the documents of the database
-pub counted_there : (trees : Trees) (d : Row) (l : IsLaid trees) (deleted : Bool) → all_count trees (number_of d) deleted ≡ document_count deleted (database_of trees d)
+pub counted_there : (trees : Trees) (d : Row) (l : IsWellFormed trees) (deleted : Bool) → all_count trees (number_of d) deleted ≡ document_count deleted (database_of_row trees d)
 counted_there trees d l true = ap (λ c. c.deleted) (sym (counts_by_sequence trees d l))
 counted_there trees d l false =
-    let es = finite.entries (database_of trees d).documents in
+    let es = finite.entries (database_of_row trees d).documents in
     let both = both_counted (λ (e : List ℕ × Document). is_gone e.1.history) es in
     ap (λ c. c.documents) (sym (counts_by_sequence trees d l)) ∙ omega (arith, both)
 
 -- ---- another database was changed
 
-module _ (old new : Trees) (was : IsLaid old) (is : IsLaid new) where
+module _ (old new : Trees) (was : IsWellFormed old) (is : IsWellFormed new) where
   -- the ids of the same documents
-  same_ids : (r : Row) → database_of new r ≡ database_of old r → IsPermutation (live_ids old (number_of r)) (live_ids new (number_of r))
+  same_ids : (r : Row) → database_of_row new r ≡ database_of_row old r → IsPermutation (live_ids old (number_of r)) (live_ids new (number_of r))
   same_ids r same =
       IsPermutation-trans _ _ _ (live_there old r was)
       (subst (λ (db : store.Database). IsPermutation (live_keys db.documents) (live_ids new (number_of r))) same (IsPermutation-sym _ _ (live_there new r is)))
@@ -53,7 +53,7 @@ module _ (old new : Trees) (was : IsLaid old) (is : IsLaid new) where
       let r = found.0 in
       let number : number_of r ≡ k.found.number = ap (λ v. v.0) found.2 in
       let here : slice_get (filter (is_named k.name) (new dbs_tree)) 0 ≡ Some r = ap (λ l. slice_get l 0) rows ∙ found.1 in
-      let database : database_of new r ≡ database_of old r = inside _ _ (sym (database_there new is k.name r here) ∙ same ∙ database_there old was k.name r found.1) in
+      let database : database_of_row new r ≡ database_of_row old r = inside _ _ (sym (database_there new is k.name r here) ∙ same ∙ database_there old was k.name r found.1) in
       let count : (deleted : Bool) → all_count old k.found.number deleted ≡ all_count new k.found.number deleted = λ deleted.
       ap (λ n. all_count old n deleted) (sym number) ∙ counted_there old r was deleted ∙ ap (document_count deleted) (sym database) ∙ sym (counted_there new r is deleted) ∙ ap (λ n. all_count new n deleted) number in
       record {
@@ -90,9 +90,9 @@ module _ (old new : Trees) (dbs : new dbs_tree ≡ old dbs_tree) (docs : new doc
   known_still k known = record {
     row = ap (λ rows. option_map found_in (slice_get (filter (is_named k.name) rows) 0)) dbs ∙ known.row;
     counts = λ deleted.
-        subst (λ (rows : List Row). IfSome (count_kept deleted k) (λ (c : DocumentCount). c.value ≡ count_by (λ s. has_mark deleted (listed_mark s)) (map listed_document (sort_by by_sequence (filter (is_in k.found.number) rows)))))
+        subst (λ (rows : List Row). IfSome (count_kept deleted k) (λ (c : DocumentCount). c.value ≡ count_by (λ s. has_mark deleted (listed_mark s)) (map listed_document (sort_by by_sequence (filter (is_row_of_database k.found.number) rows)))))
         (sym docs) (known.counts deleted);
-    ranked = subst (λ (rows : List Row). IfSome k.ranks (λ r. AreRanksOf r (map id_of (filter (λ r. is_in k.found.number r && has_mark false (is_gone_row r)) rows)))) (sym docs) known.ranked;
+    ranked = subst (λ (rows : List Row). IfSome k.ranks (λ r. AreRanksOf r (map id_of (filter (λ r. is_row_of_database k.found.number r && has_mark false (is_gone_row r)) rows)))) (sym docs) known.ranked;
     indexes = subst (λ (rows : List Row). IfSome k.indexes (λ (all : Vec Declaration Global). map declared all.items ≡ map declared_at (filter (is_at_home k.found.number) rows))) (sym decls) known.indexes;
     counted = subst (λ (rows : List Row). IfSome k.entries (λ (cs : Vec EntryCount Global). AllByRecursion (λ (c : EntryCount). c.value ≡ count_of c.declaration [] (8 ∷ []) rows) cs.items)) (sym entries) known.counted;
   }

@@ -1,5 +1,5 @@
 -- Counts and lists of the rows of a database, by the ranks of its ids.
-use Rattle.tables.proofs.Common.{AllByRecursion, Bool, Equal, Greater, IsAscending, IsLaid, IsPermutation-map, IsPermutation-sort_by, Less, List, Ordering, Row, Some, Trees, [], ap, ap₂, arith, ascending-filter, by_id, by_sequence, cond, docs_tree, drop, false, filter, filter-map, filter_same, first_rows, id_of, insert_sorted, inside, is_eq, is_gone, is_gt, is_in, is_lt, length, length-map, listed_document, listed_id, listed_mark, map, nat_cmp_total, nat_list_cmp_total, not, on_total, option_map, ordering_reverse, pos, refl, sequence_of, slice_get, sort_by, subst, suc, sym, true, ℕ, ℤ, ◌&&◌, ◌+◌, ◌-◌, ◌∙◌, ◌∷◌, ◌≡◌, ◌≤◌}
+use Rattle.tables.proofs.Common.{AllByRecursion, Bool, Equal, Greater, IsAscending, IsWellFormed, IsPermutation-map, IsPermutation-sort_by, Less, List, Ordering, Row, Some, Trees, [], ap, ap₂, arith, ascending-filter, by_id, by_sequence, cond, docs_tree, drop, false, filter, filter-map, filter_same, first_rows, id_of, insert_sorted, inside, is_eq, is_gone_row, is_gt, is_row_of_database, is_lt, length, length-map, listed_document, listed_id, listed_mark, map, nat_cmp_total, nat_list_cmp_total, not, on_total, option_map, ordering_reverse, pos, refl, sequence_of_row, slice_get, sort_by, subst, suc, sym, true, ℕ, ℤ, ◌&&◌, ◌+◌, ◌-◌, ◌∙◌, ◌∷◌, ◌≡◌, ◌≤◌}
 use Rattle.std.proofs.Common.{IfSome, None, Option, reverse, take, zero}
 use Rattle.std.proofs.lemmas.List.{drop-drop, drop-map}
 use Rattle.ranks.proofs.Lists.{Above, Rises, below_permuted, between_below, between_filter, is_part, part_between, rank_at, skip_down, skip_up}
@@ -91,7 +91,7 @@ module _ (trees : Trees) (db : ℤ) where
   ids = live_ids trees db
 
   abbrev is_live : Row → Bool
-  is_live r = is_in db r && has_mark false (is_gone r)
+  is_live r = is_row_of_database db r && has_mark false (is_gone_row r)
 
   abbrev live : List Row
   live = filter is_live docs
@@ -105,8 +105,8 @@ module _ (trees : Trees) (db : ℤ) where
   -- a row lies between two bounds if and only if its id does
   same_test : (low high : List ℕ) (r : Row) → is_marked_between db false low high r ≡ (is_live r && is_part id_of low high r)
   same_test low high r =
-      ap (λ b. is_in db r && (has_mark false (is_gone r) && (b && is_below (id_of r) high))) (at_most low (id_of r))
-      ∙ joined (is_in db r) (has_mark false (is_gone r)) (is_part id_of low high r)
+      ap (λ b. is_row_of_database db r && (has_mark false (is_gone_row r) && (b && is_below (id_of r) high))) (at_most low (id_of r))
+      ∙ joined (is_row_of_database db r) (has_mark false (is_gone_row r)) (is_part id_of low high r)
 
   in_part : (low high : List ℕ) → filter (is_marked_between db false low high) docs ≡ filter (is_part id_of low high) live
   in_part low high =
@@ -125,11 +125,11 @@ module _ (trees : Trees) (db : ℤ) where
 
   -- ---- where ids are apart
 
-  module _ (l : IsLaid trees) where
+  module _ (l : IsWellFormed trees) where
     apart : IsAscending (λ a b. is_eq (by_id a b) ≡ false) live
     apart =
-        subst (IsAscending (λ a b. is_eq (by_id a b) ≡ false)) (filter_both (λ r. has_mark false (is_gone r)) (is_in db) docs)
-        (ascending-filter (λ a b. is_eq (by_id a b) ≡ false) (λ r. has_mark false (is_gone r)) (documents_of trees db) (ids_apart trees db l))
+        subst (IsAscending (λ a b. is_eq (by_id a b) ≡ false)) (filter_both (λ r. has_mark false (is_gone_row r)) (is_row_of_database db) docs)
+        (ascending-filter (λ a b. is_eq (by_id a b) ≡ false) (λ r. has_mark false (is_gone_row r)) (documents_of trees db) (ids_apart trees db l))
 
     rising : Rises keys
     rising = rises_sorted live apart
@@ -143,7 +143,7 @@ module _ (trees : Trees) (db : ℤ) where
 
     -- as many are counted as there are ids
     pub ids_counted : all_count trees db false ≡ length ids
-    ids_counted = sym (counted trees db l by_sequence (on_total sequence_of nat_cmp_total) (λ s. has_mark false (listed_mark s))) ∙ sym (length-map live id_of)
+    ids_counted = sym (counted trees db l by_sequence (on_total sequence_of_row nat_cmp_total) (λ s. has_mark false (listed_mark s))) ∙ sym (length-map live id_of)
 
     -- the rows between two bounds are those between the ranks of the bounds
     parts_sorted : (low high : List ℕ) → sort_by by_id (filter (is_marked_between db false low high) docs) ≡ drop (below low ids) (take (below high ids) sorted)

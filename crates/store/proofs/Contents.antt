@@ -9,7 +9,7 @@ use Rattle.std.specs.FinMap as map
 use Rattle.couch_json.specs.Value.{Value}
 use Rattle.tree.specs.History.{HistoryContent, with_write}
 use Rattle.store.specs.declared.local_document.LocalDocument.{LocalDocument}
-use Rattle.store.specs.Database.{TextMap, Database, DocumentWrite, Document, history_at, history_in, with_one, with_all, empty_database, is_of}
+use Rattle.store.specs.Database.{TextMap, Database, DocumentWrite, Document, history_at, history_in, with_one, with_all, empty_database, is_write_of}
 use Rattle.store.specs.Contents.{with_security}
 use Rattle.store.specs.Plain.{content, history_after, with_addition}
 use Rattle.store.specs.Writing.{Addition, addition_of, additions, written_at, written_in, writings_in}
@@ -39,14 +39,14 @@ history_after-document : (b : Bool) (d : Document) (o : Option Document) → his
 history_after-document true d o = refl
 history_after-document false d o = refl
 
-of_id : (h : List ℕ → HistoryContent) (w : DocumentWrite) (id : List ℕ) (b : Bool) → bytes_eq id w.id ≡ b → cond b (with_write (h w.id) w.write) (h id) ≡ cond (is_of id w) (with_write (h id) w.write) (h id)
+of_id : (h : List ℕ → HistoryContent) (w : DocumentWrite) (id : List ℕ) (b : Bool) → bytes_eq id w.id ≡ b → cond b (with_write (h w.id) w.write) (h id) ≡ cond (is_write_of id w) (with_write (h id) w.write) (h id)
 of_id h w id true is =
     let same : id ≡ w.id = (bytes_eq-Decides id w.id).0 is in
-    let back : is_of id w ≡ true = (bytes_eq-Decides w.id id).1 (sym same) in
+    let back : is_write_of id w ≡ true = (bytes_eq-Decides w.id id).1 (sym same) in
     rw back (ap (λ k. with_write (h k) w.write) (sym same))
-of_id h w id false is = let back : is_of id w ≡ false = bytes_eq_comm w.id id ∙ is in rw back
+of_id h w id false is = let back : is_write_of id w ≡ false = bytes_eq_comm w.id id ∙ is in rw back
 
-pub history_at-with_one : (db : Database) (w : DocumentWrite) (id : List ℕ) → history_at (with_one db w) id ≡ cond (is_of id w) (with_write (history_at db id) w.write) (history_at db id)
+pub history_at-with_one : (db : Database) (w : DocumentWrite) (id : List ℕ) → history_at (with_one db w) id ≡ cond (is_write_of id w) (with_write (history_at db id) w.write) (history_at db id)
 history_at-with_one db w id =
     ap history_in (document_after db w id) ∙ history_after-document (bytes_eq id w.id) _ (map.get db.documents id) ∙ of_id (history_at db) w id (bytes_eq id w.id) refl
 

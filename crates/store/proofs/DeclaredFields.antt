@@ -8,9 +8,9 @@ use Rattle.std.specs.declared.cmp.Ordering.TheVariants.{Less, Equal, Greater}
 use Rattle.couch_json.specs.Parts.{has_only, is_there_and}
 use Rattle.couch_json.specs.Value.{Value, null, truth, whole, text, array, object, Items, Members, no_members, member, member_at, member_of}
 use Rattle.policy.specs.DesignDocuments.{are_indexes, are_paths, is_field_list, is_index, is_index_name, is_index_object}
-use Rattle.tree.specs.ShownDocument.{members_in}
+use Rattle.tree.specs.ShownDocument.{body_members}
 
-pub member_of-members_in : (v : Value) (name : List ℕ) → member_of (object (members_in v)) name ≡ member_of v name
+pub member_of-members_in : (v : Value) (name : List ℕ) → member_of (object (body_members v)) name ≡ member_of v name
 member_of-members_in null name = refl
 member_of-members_in (truth b) name = refl
 member_of-members_in (whole n) name = refl

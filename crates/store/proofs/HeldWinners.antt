@@ -14,7 +14,7 @@ use Rattle.tree.proofs.Shown.{inside}
 use Rattle.store.specs.Calls.{Answers}
 use Rattle.store.specs.Contents.{Contents}
 use Rattle.store.specs.Database.{Database, history_at}
-use Rattle.store.specs.Lawful.{AreLawful, IsLawful}
+use Rattle.store.specs.Lawful.{AreLawful, IsLawfulDatabase}
 use Rattle.store.specs.Winning.{IsHeldSo}
 use Rattle.store.specs.declared.fault.StoreFault.{StoreFault}
 use Rattle.store.specs.declared.fault.StoreFault.TheVariants.{Damaged}
@@ -50,7 +50,7 @@ winner_leaf h None r is best = absurd (cc)
 winner_leaf h (Some w) r is best = subst (λ s. IsTrue (is_leaf h s)) (inside w r is) best.0
 
 -- something is held of the winner in a lawful database, with its mark
-pub lawful_held : (db : Database) (id : List ℕ) (m : MarkedRev) → IsLawful db → marked_winner (history_at db id) ≡ Some m → IsHeldSo m.deleted (held_of (history_at db id) m.rev)
+pub lawful_held : (db : Database) (id : List ℕ) (m : MarkedRev) → IsLawfulDatabase db → marked_winner (history_at db id) ≡ Some m → IsHeldSo m.deleted (held_of (history_at db id) m.rev)
 lawful_held db id m lawful won =
     let h = history_at db id in
     let past = writes_behind db id lawful in

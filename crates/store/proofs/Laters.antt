@@ -7,7 +7,7 @@ use Rattle.tree.specs.Revision.{Revision}
 use Rattle.tree.specs.Write as tree
 use Rattle.tree.specs.History.{HistoryContent, is_known, with_write}
 use Rattle.tree.proofs.Contents.{entry_kept}
-use Rattle.store.specs.Database.{Database, Document, DocumentWrite, Log, IsContentOf, IsLater, HasSequences, is_of, history_at, sequence_at, sequence_in, with_one, with_all}
+use Rattle.store.specs.Database.{Database, Document, DocumentWrite, Log, IsContentOf, IsLater, HasSequences, is_write_of, history_at, sequence_at, sequence_in, with_one, with_all}
 use Rattle.store.proofs.Contents.{document_after, history_at-with_one}
 use Rattle.store.proofs.Logs.{beginning, content_logged, content_exists, one_content}
 
@@ -38,7 +38,7 @@ later_by_one db w =
     let made : List ℕ → Document = λ id. record { sequence = db.length + 1; history = with_write (history_at db w.id) w.write } in
     record {
       grown = omega arith;
-      known = λ id r k. subst (λ h. IsTrue (is_known h r)) (sym (history_at-with_one db w id)) (known_kept (history_at db id) w.write r (is_of id w) k);
+      known = λ id r k. subst (λ h. IsTrue (is_known h r)) (sym (history_at-with_one db w id)) (known_kept (history_at db id) w.write r (is_write_of id w) k);
       unchanged = λ id early.
           (let after = document_after db w id in
           after ∙ unless_new (bytes_eq id w.id) db.length (made id) (finite.get db.documents id) refl (subst (λ o. sequence_in o ≤ db.length) after early));

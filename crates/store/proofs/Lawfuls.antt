@@ -9,7 +9,7 @@ use Rattle.std.specs.Ordering.{eq_by_cmp}
 use Rattle.std.specs.FinMap as map
 use Rattle.couch_json.specs.Value.{Value}
 use Rattle.tree.specs.Revision.{Revision}
-use Rattle.tree.specs.Write.{Write, IsLawful as AreWritten, StandsIn, IsBehind, IsKnown, IsParent, IsBrought, AreWhole, head, counts_down, is_whole}
+use Rattle.tree.specs.Write.{Write, AreLawfulWrites as AreWritten, StandsIn, IsBehind, IsKnown, IsParent, IsBrought, AreWhole, head, counts_down, is_whole_path}
 use Rattle.tree.specs.History.{HistoryContent, content_of, with_write, placement, IsBetter, is_leaf, parent_of, winner, held_of}
 use Rattle.tree.specs.declared.entry.Held.{Held}
 use Rattle.tree.specs.declared.placement.Placed.TheVariants.{Added}
@@ -21,7 +21,7 @@ use Rattle.tree.proofs.Shown.{behind_below, inside, is_known_writes, parent_belo
 use Rattle.store.specs.Database.{Database, Document, DocumentWrite, history_at, history_in, with_one, with_all, empty_database}
 use Rattle.store.specs.declared.local_document.LocalDocument.{LocalDocument}
 use Rattle.store.specs.Contents.{Contents, IsAcceptable, AreAcceptable, IfThere, with_local, with_security}
-use Rattle.store.specs.Lawful.{IsBody, IsWritten, IsLawful, AreLawful}
+use Rattle.store.specs.Lawful.{IsBody, IsWritten, IsLawfulDatabase, AreLawful}
 use Rattle.store.specs.Writing.{Addition, writings_in}
 use Rattle.store.proofs.Contents.{document_after}
 use Rattle.store.proofs.Laters.{sequences_by_one}
@@ -61,7 +61,7 @@ at_key : (b : Bool) (n : ℕ) (h : HistoryContent) (o : Option Document) (d : Do
 at_key true n h o d new old is = subst (λ (x : Document). IsWritten x.history) (inside _ d is) new
 at_key false n h o d new old is = old d is
 
-pub lawful_by_one : (db : Database) (w : DocumentWrite) → IsLawful db → IsAcceptable db w → IsLawful (with_one db w)
+pub lawful_by_one : (db : Database) (w : DocumentWrite) → IsLawfulDatabase db → IsAcceptable db w → IsLawfulDatabase (with_one db w)
 lawful_by_one db w h ok =
     let body : IsBody w.write.body = record { object = ok.body; shallow = ok.shallow } in
     let new = written_in (map.get db.documents w.id) w.write (h.documents w.id) ok.placed body in
@@ -71,11 +71,11 @@ lawful_by_one db w h ok =
       locals = h.locals;
     }
 
-pub lawful_by_all : (ws : List DocumentWrite) (db : Database) → IsLawful db → AreAcceptable db ws → IsLawful (with_all db ws)
+pub lawful_by_all : (ws : List DocumentWrite) (db : Database) → IsLawfulDatabase db → AreAcceptable db ws → IsLawfulDatabase (with_all db ws)
 lawful_by_all [] db h ok = h
 lawful_by_all (w ∷ ws) db h ok = lawful_by_all ws (with_one db w) (lawful_by_one db w h ok.0) ok.1
 
-pub lawful_empty : (security : Value) → IsLawful (empty_database security)
+pub lawful_empty : (security : Value) → IsLawfulDatabase (empty_database security)
 lawful_empty security =
     record {
       documents = λ id d is. absurd (none id d is);
@@ -86,7 +86,7 @@ lawful_empty security =
     none : (id : List ℕ) (d : Document) → map.get (empty_database security).documents id ≡ Some d → ⊥
     none id d is = let none = sym (map.get-empty {X = Document} (slice_cmp nat_cmp) id) ∙ is in cc
 
-pub lawful_secured : (db : Database) (security : Value) → IsLawful db → IsLawful (with_security db security)
+pub lawful_secured : (db : Database) (security : Value) → IsLawfulDatabase db → IsLawfulDatabase (with_security db security)
 lawful_secured db security h =
     record { documents = h.documents; sequences = record { positive = h.sequences.positive; within = h.sequences.within; distinct = h.sequences.distinct }; locals = h.locals }
 
@@ -94,7 +94,7 @@ local_key : (b : Bool) (new : LocalDocument) (old : Option LocalDocument) (d : L
 local_key true new old d n o is = subst (λ (x : LocalDocument). IsBody x.body) (inside new d is) n
 local_key false new old d n o is = o is
 
-pub lawful_local : (db : Database) (id : List ℕ) (document : LocalDocument) → IsLawful db → IsBody document.body → IsLawful (with_local db id document)
+pub lawful_local : (db : Database) (id : List ℕ) (document : LocalDocument) → IsLawfulDatabase db → IsBody document.body → IsLawfulDatabase (with_local db id document)
 lawful_local db id document h body =
     record {
       documents = h.documents;
@@ -104,7 +104,7 @@ lawful_local db id document h body =
     }
 
 -- the lawful writes that stand behind the history of an id, none where it was never written
-pub writes_behind : (db : Database) (id : List ℕ) → IsLawful db → (ws : List Write) × AreWritten ws × (history_at db id ≡ content_of ws)
+pub writes_behind : (db : Database) (id : List ℕ) → IsLawfulDatabase db → (ws : List Write) × AreWritten ws × (history_at db id ≡ content_of ws)
 writes_behind db id h = by (map.get db.documents id) (h.documents id)
   where
     by : (o : Option Document) → ((d : Document) → o ≡ Some d → IsWritten d.history) → (ws : List Write) × AreWritten ws × (history_in o ≡ content_of ws)
@@ -128,7 +128,7 @@ parent_split [] w s r (inr b) = absurd b
 parent_split (v ∷ ws) w s r (inl b) = inl (inl b)
 parent_split (v ∷ ws) w s r (inr b) = elim (parent_split ws w s r b) as (λ _. IsParent (v ∷ ws) s r ⊎ IsBehind w.path s r) [ inl k ↦ inl (inr k) | inr k ↦ inr k ]
 
-whole_front : (ws : List Write) (w : Write) → AreWhole (ws ++ w ∷ []) → AreWhole ws × (is_whole w.path ≡ true)
+whole_front : (ws : List Write) (w : Write) → AreWhole (ws ++ w ∷ []) → AreWhole ws × (is_whole_path w.path ≡ true)
 whole_front [] w h = (tt, h.0)
 whole_front (v ∷ ws) w h = let k = whole_front ws w h.1 in ((h.0, k.0), k.1)
 
@@ -139,7 +139,7 @@ pub record HasHead (path : List Revision) : Type 0 where
   pub stands : StandsIn path rev
   pub number : rev.number ≡ length path
 
-whole_head : (path : List Revision) → is_whole path ≡ true → HasHead path
+whole_head : (path : List Revision) → is_whole_path path ≡ true → HasHead path
 whole_head [] h = cc
 whole_head (r ∷ path) h = record { rev = r; head = refl; stands = inl refl; number = eqb-true r.number (suc (length path)) (parts _ _ h).0 }
 
@@ -196,15 +196,15 @@ held_body h r d k is =
 pub lawful_none : AreLawful map.empty
 lawful_none name db is = let none = sym (map.get-empty {X = Database} (slice_cmp nat_cmp) name) ∙ is in absurd (cc)
 
-inserted_at : (b : Bool) (old : Option Database) (new db : Database) → IsLawful new → (old ≡ Some db → IsLawful db) → cond b (Some new) old ≡ Some db → IsLawful db
-inserted_at true old new db n o is = subst IsLawful (inside new db is) n
+inserted_at : (b : Bool) (old : Option Database) (new db : Database) → IsLawfulDatabase new → (old ≡ Some db → IsLawfulDatabase db) → cond b (Some new) old ≡ Some db → IsLawfulDatabase db
+inserted_at true old new db n o is = subst IsLawfulDatabase (inside new db is) n
 inserted_at false old new db n o is = o is
 
-pub lawful_insert : (c : Contents) (name : List ℕ) (new : Database) → AreLawful c → IsLawful new → AreLawful (map.insert c name new)
+pub lawful_insert : (c : Contents) (name : List ℕ) (new : Database) → AreLawful c → IsLawfulDatabase new → AreLawful (map.insert c name new)
 lawful_insert c name new h n other db is =
     inserted_at (eq_by_cmp (slice_cmp nat_cmp) other name) (map.get c other) new db n (h other db) (sym (map.get-insert nat_list_cmp_total c name new other) ∙ is)
 
-removed_at : (b : Bool) (old : Option Database) (db : Database) → (old ≡ Some db → IsLawful db) → cond b None old ≡ Some db → IsLawful db
+removed_at : (b : Bool) (old : Option Database) (db : Database) → (old ≡ Some db → IsLawfulDatabase db) → cond b None old ≡ Some db → IsLawfulDatabase db
 removed_at true old db o is = cc
 removed_at false old db o is = o is
 
@@ -214,7 +214,7 @@ lawful_remove c name h other db is =
 
 -- one database is changed, in a way that keeps it lawful
 pub lawful_change : (c d : Contents) (name : List ℕ) (o : Option Database) (change : Database → Database) → o ≡ map.get c name → option_map (λ db. map.insert c name (change db)) o ≡ Some d
-    → ((db : Database) → o ≡ Some db → IsLawful db → IsLawful (change db)) → AreLawful c → AreLawful d
+    → ((db : Database) → o ≡ Some db → IsLawfulDatabase db → IsLawfulDatabase (change db)) → AreLawful c → AreLawful d
 lawful_change c d name None change at is keeps h = cc
 lawful_change c d name (Some db) change at is keeps h = subst AreLawful (inside _ d is) (lawful_insert c name (change db) h (keeps db refl (h name db (sym at))))
 

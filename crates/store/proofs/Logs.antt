@@ -8,22 +8,22 @@ use Rattle.std.specs.FinMap.{slice_cmp-IsAntisymmetric, nat_cmp-IsAntisymmetric}
 use Rattle.tree.specs.Write as tree
 use Rattle.tree.specs.History.{content_of, with_write}
 use Rattle.tree.proofs.Contents.{one_more_write}
-use Rattle.store.specs.Database.{Database, Document, DocumentWrite, Log, IsContentOf, is_of, writes_of, places_from, greatest, sequence_of, document_with, document_of, history_in, history_at, with_one, with_all, with_write_logged}
+use Rattle.store.specs.Database.{Database, Document, DocumentWrite, Log, IsContentOf, is_write_of, writes_of, places_from, greatest, sequence_of, document_with, document_of, history_in, history_at, with_one, with_all, with_write_logged}
 use Rattle.store.proofs.Contents.{bytes_eq_comm, document_after}
 
 -- ---- the writes of a document
 
-writes_of-push : (id : List ℕ) (ws : List DocumentWrite) (w : DocumentWrite) → writes_of id (ws ++ w ∷ []) ≡ cond (is_of id w) (writes_of id ws ++ w.write ∷ []) (writes_of id ws)
-writes_of-push id [] w = one (is_of id w)
+writes_of-push : (id : List ℕ) (ws : List DocumentWrite) (w : DocumentWrite) → writes_of id (ws ++ w ∷ []) ≡ cond (is_write_of id w) (writes_of id ws ++ w.write ∷ []) (writes_of id ws)
+writes_of-push id [] w = one (is_write_of id w)
   where
     one : (b : Bool) → map (λ (v : DocumentWrite). v.write) (cond b (w ∷ []) []) ≡ cond b (w.write ∷ []) []
     one true = refl
     one false = refl
-writes_of-push id (v ∷ ws) w = front (is_of id v) (is_of id w) (writes_of-push id ws w)
+writes_of-push id (v ∷ ws) w = front (is_write_of id v) (is_write_of id w) (writes_of-push id ws w)
   where
     front : (b c : Bool) → writes_of id (ws ++ w ∷ []) ≡ cond c (writes_of id ws ++ w.write ∷ []) (writes_of id ws)
-        → map (λ (u : DocumentWrite). u.write) (cond b (v ∷ filter (is_of id) (ws ++ w ∷ [])) (filter (is_of id) (ws ++ w ∷ [])))
-        ≡ cond c (map (λ (u : DocumentWrite). u.write) (cond b (v ∷ filter (is_of id) ws) (filter (is_of id) ws)) ++ w.write ∷ []) (map (λ (u : DocumentWrite). u.write) (cond b (v ∷ filter (is_of id) ws) (filter (is_of id) ws)))
+        → map (λ (u : DocumentWrite). u.write) (cond b (v ∷ filter (is_write_of id) (ws ++ w ∷ [])) (filter (is_write_of id) (ws ++ w ∷ [])))
+        ≡ cond c (map (λ (u : DocumentWrite). u.write) (cond b (v ∷ filter (is_write_of id) ws) (filter (is_write_of id) ws)) ++ w.write ∷ []) (map (λ (u : DocumentWrite). u.write) (cond b (v ∷ filter (is_write_of id) ws) (filter (is_write_of id) ws)))
     front true true h = ap (λ us. v.write ∷ us) h
     front true false h = ap (λ us. v.write ∷ us) h
     front false c h = h
@@ -40,12 +40,12 @@ alone true n k e = ap (λ m. m ∷ []) e
 alone false n k e = refl
 
 places_from-push : (n : ℕ) (id : List ℕ) (ws : List DocumentWrite) (w : DocumentWrite)
-    → places_from n id (ws ++ w ∷ []) ≡ cond (is_of id w) (places_from n id ws ++ (n + length ws) ∷ []) (places_from n id ws)
-places_from-push n id [] w = alone (is_of id w) n (n + 0) (omega arith)
+    → places_from n id (ws ++ w ∷ []) ≡ cond (is_write_of id w) (places_from n id ws ++ (n + length ws) ∷ []) (places_from n id ws)
+places_from-push n id [] w = alone (is_write_of id w) n (n + 0) (omega arith)
 places_from-push n id (v ∷ ws) w =
     let moved : n + 1 + length ws ≡ n + suc (length ws) = omega arith in
-    place_more (is_of id v) (is_of id w) n (n + suc (length ws)) (places_from (n + 1) id (ws ++ w ∷ [])) (places_from (n + 1) id ws)
-    (places_from-push (n + 1) id ws w ∙ ap (λ k. cond (is_of id w) (places_from (n + 1) id ws ++ k ∷ []) (places_from (n + 1) id ws)) moved)
+    place_more (is_write_of id v) (is_write_of id w) n (n + suc (length ws)) (places_from (n + 1) id (ws ++ w ∷ [])) (places_from (n + 1) id ws)
+    (places_from-push (n + 1) id ws w ∙ ap (λ k. cond (is_write_of id w) (places_from (n + 1) id ws ++ k ∷ []) (places_from (n + 1) id ws)) moved)
 
 greatest-push : (ns : List ℕ) (k : ℕ) → greatest (ns ++ k ∷ []) ≡ max (greatest ns) k
 greatest-push [] k = omega arith
@@ -57,7 +57,7 @@ bounded false n m k rest here more = more
 
 places_within : (m : ℕ) (id : List ℕ) (ws : List DocumentWrite) → greatest (places_from (m + 1) id ws) ≤ m + length ws
 places_within m id [] = omega arith
-places_within m id (v ∷ ws) = let more = places_within (m + 1) id ws in bounded (is_of id v) (m + 1) m (m + suc (length ws)) (places_from (m + 1 + 1) id ws) (omega arith) (omega arith)
+places_within m id (v ∷ ws) = let more = places_within (m + 1) id ws in bounded (is_write_of id v) (m + 1) m (m + suc (length ws)) (places_from (m + 1 + 1) id ws) (omega arith) (omega arith)
 
 -- ---- the document
 
@@ -69,7 +69,7 @@ history_in-document_with : (vs : List tree.Write) (sequence : ℕ) → history_i
 history_in-document_with [] sequence = refl
 history_in-document_with (v ∷ vs) sequence = refl
 
-document_pushed : (id : List ℕ) (ws : List DocumentWrite) (w : DocumentWrite) (b : Bool) → is_of id w ≡ b
+document_pushed : (id : List ℕ) (ws : List DocumentWrite) (w : DocumentWrite) (b : Bool) → is_write_of id w ≡ b
     → document_of id (ws ++ w ∷ []) ≡ cond b (Some (record { sequence = length ws + 1; history = with_write (content_of (writes_of id ws)) w.write })) (document_of id ws)
 document_pushed id ws w true is =
     let own = writes_of-push id ws w ∙ ap (λ b. cond b (writes_of id ws ++ w.write ∷ []) (writes_of id ws)) is in

@@ -7,7 +7,7 @@ use Rattle.std.specs.Ordering.{is_eq}
 use Rattle.tree.specs.DocumentId.{is_design_id}
 use Rattle.tree.specs.History.{HistoryContent, held_of, is_deleted, leaves_in, winner, with_new}
 use Rattle.tree.specs.Revision.{Revision, revision_cmp}
-use Rattle.tree.specs.ShownDocument.{shown_document}
+use Rattle.tree.specs.ShownDocument.{document_at_revision}
 use Rattle.tree.specs.declared.entry.Entry.{Entry}
 use Rattle.tree.specs.declared.entry.Held.{Held}
 use Rattle.tree.proofs.Kept.{Node, revision_cmp_total}
@@ -82,7 +82,7 @@ module _ (h : HistoryContent) where
     where
       by : (b : Bool) → shown_by id (single r (held_of h r)) (cond b None (Some r)) ≡ shown_by id h (cond b None (Some r))
       by true = refl
-      by false = ap (option_map (λ held. shown_document id r held)) (held_of_one r (held_of h r))
+      by false = ap (option_map (λ held. document_at_revision id r held)) (held_of_one r (held_of h r))
 
   pub queried_alone : (id : List ℕ) → queried_document id (winner_alone h) ≡ queried_document id h
   queried_alone id =

@@ -7,7 +7,7 @@ use Rattle.store.specs.declared.store.Store.{Ghosts}
 
 -- what a call leaves of honesty and of faults
 abbrev pub GoesOn : {S : Type 0} → Ghosts S → S → S → Type 0
-GoesOn g old new = leaving.GoesOn g.is_honest g.is_clean g.fault_count old new
+GoesOn g old new = leaving.Progresses g.is_honest g.is_clean g.fault_count old new
 
 abbrev pub OnlyReads : {S : Type 0} → Ghosts S → S → S → Type 0
 OnlyReads g old new = leaving.OnlyReads g.contents g.is_honest g.is_clean g.fault_count g.lacks_room g.lacks_number old new

@@ -41,17 +41,17 @@ pub record Database : Type 0 where
 -- ---- a document, by the writes of its database
 
 -- the write is one of the document of this id
-abbrev pub is_of : List ℕ → DocumentWrite → Bool
-is_of id w = bytes_eq w.id id
+abbrev pub is_write_of : List ℕ → DocumentWrite → Bool
+is_write_of id w = bytes_eq w.id id
 
 -- the document's writes, in order
 abbrev pub writes_of : List ℕ → List DocumentWrite → List tree.Write
-writes_of id ws = map (λ w. w.write) (filter (is_of id) ws)
+writes_of id ws = map (λ w. w.write) (filter (is_write_of id) ws)
 
 -- the places, counted on from n, at which the document's writes stand
 abbrev pub places_from : ℕ → List ℕ → List DocumentWrite → List ℕ
 places_from n id [] = []
-places_from n id (w ∷ ws) = if is_of id w then n ∷ places_from (n + 1) id ws else places_from (n + 1) id ws
+places_from n id (w ∷ ws) = if is_write_of id w then n ∷ places_from (n + 1) id ws else places_from (n + 1) id ws
 
 abbrev pub greatest : List ℕ → ℕ
 greatest [] = 0

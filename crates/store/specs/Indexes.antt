@@ -15,7 +15,7 @@ use Rattle.policy.specs.DesignDocuments.{is_index_object}
 use Rattle.tree.specs.DocumentId.{is_design_id}
 use Rattle.tree.specs.History.{HistoryContent, held_of}
 use Rattle.tree.specs.Revision.{Revision}
-use Rattle.tree.specs.ShownDocument.{members_in, shown_document}
+use Rattle.tree.specs.ShownDocument.{body_members, document_at_revision}
 use Rattle.tree.specs.declared.entry.Held.{Held}
 use Rattle.store.specs.Database.{Database, Document, history_at}
 use Rattle.store.specs.Pages.{live_rev}
@@ -30,7 +30,7 @@ held_by h (Some r) = held_of h r
 -- a document at a revision, as readers are shown it; none without a revision
 abbrev pub shown_by : List ℕ → HistoryContent → Option Revision → Option Value
 shown_by id h None = None
-shown_by id h (Some r) = option_map (λ held. shown_document id r held) (held_of h r)
+shown_by id h (Some r) = option_map (λ held. document_at_revision id r held) (held_of h r)
 
 -- the document as its winner shows it, where the winner is not deleted; design documents are not looked at
 abbrev pub queried_document : List ℕ → HistoryContent → Option Value
@@ -105,7 +105,7 @@ fields_in index = paths_in (items_or_none (option_and_then items_in (member_of i
 -- indexes by name; where one of them is not of its form there are none
 abbrev pub indexes_if : Option Value → Members
 indexes_if None = no_members
-indexes_if (Some v) = if is_index_object v then members_in v else no_members
+indexes_if (Some v) = if is_index_object v then body_members v else no_members
 
 -- the index that a body declares under this name
 abbrev pub declared_index : Value → List ℕ → Option Value

@@ -20,16 +20,16 @@ pub record IsBody (body : Value) : Type 0 where
 pub record IsWritten (h : HistoryContent) : Type 0 where
   pub before : List tree.Write
   pub last : tree.Write
-  pub lawful : tree.IsLawful (before ++ last ∷ [])
+  pub lawful : tree.AreLawfulWrites (before ++ last ∷ [])
   pub bodies : AllByRecursion (λ w. IsBody w.body) (before ++ last ∷ [])
   pub content : h ≡ content_of (before ++ last ∷ [])
 
 -- each document was written lawfully, the sequences lie from 1 to the length, each once, and each local document has a body
-pub record IsLawful (db : Database) : Type 0 where
+pub record IsLawfulDatabase (db : Database) : Type 0 where
   pub documents : (id : List ℕ) (d : Document) → get db.documents id ≡ Some d → IsWritten d.history
   pub sequences : HasSequences db
   pub locals : (id : List ℕ) (d : LocalDocument) → get db.locals id ≡ Some d → IsBody d.body
 
 -- each database is lawful
 abbrev pub AreLawful : Contents → Type 0
-AreLawful contents = (name : List ℕ) (db : Database) → get contents name ≡ Some db → IsLawful db
+AreLawful contents = (name : List ℕ) (db : Database) → get contents name ≡ Some db → IsLawfulDatabase db

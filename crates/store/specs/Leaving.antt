@@ -9,7 +9,7 @@ use Rattle.store.specs.declared.fault.StoreFault.TheVariants.{Memory, Failed, No
 
 -- What every call leaves: the count of faults never falls, an honest store was honest, what is clean was clean, and an honest store
 -- that stays clean stays honest.
-pub record GoesOn {S : Type 0} (is_honest is_clean : S → Type 0) (fault_count : S → ℕ) (old new : S) : Type 0 where
+pub record Progresses {S : Type 0} (is_honest is_clean : S → Type 0) (fault_count : S → ℕ) (old new : S) : Type 0 where
   pub counted : fault_count old ≤ fault_count new
   pub honest : is_honest new → is_honest old
   pub clean : is_clean new → is_clean old
@@ -17,14 +17,14 @@ pub record GoesOn {S : Type 0} (is_honest is_clean : S → Type 0) (fault_count 
 
 -- what a reader leaves: the contents as they are, and no less room than there was
 pub record OnlyReads {S : Type 0} (contents : S → Contents) (is_honest is_clean : S → Type 0) (fault_count : S → ℕ) (lacks_room : S → List ℕ → List DocumentWrite → Type 0) (lacks_number : S → Type 0) (old new : S) : Type 0 where
-  pub goes_on : GoesOn is_honest is_clean fault_count old new
+  pub goes_on : Progresses is_honest is_clean fault_count old new
   pub same : is_honest new → contents new ≡ contents old
   pub room : is_honest new → (name : List ℕ) (ws : List DocumentWrite) → lacks_room new name ws → lacks_room old name ws
   pub numbers : is_honest new → lacks_number new → lacks_number old
 
 -- what a change leaves: where it is refused, the contents as they are
 pub record ChangesWhole {S X F : Type 0} (contents : S → Contents) (is_honest is_clean : S → Type 0) (fault_count : S → ℕ) (old new : S) (result : Result X F) : Type 0 where
-  pub goes_on : GoesOn is_honest is_clean fault_count old new
+  pub goes_on : Progresses is_honest is_clean fault_count old new
   pub refused : is_honest new → OnErr result (contents new ≡ contents old)
 
 -- What a reader of a database answers: what is defined there; that there is no such database, only where nothing is defined; or want

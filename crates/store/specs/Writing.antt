@@ -4,7 +4,7 @@ use Rattle.std.specs.Prelude.{ℕ, Bool, List, [], ◌∷◌, ◌++◌, map, Opt
 use Rattle.couch_json.specs.Value.{Value}
 use Rattle.couch_json.specs.View.{view}
 use Rattle.tree.specs.Revision.{Revision}
-use Rattle.tree.specs.History.{HistoryContent, behind}
+use Rattle.tree.specs.History.{HistoryContent, ancestors_of_parent}
 use Rattle.store.specs.Database.{Database, DocumentWrite, history_at, with_one}
 use Rattle.store.specs.declared.write.Write.{Write}
 
@@ -26,7 +26,7 @@ additions ws = map addition_of ws
 
 -- the write that it is of a document with this history: its path goes on with what stands behind its parent
 abbrev pub written_in : HistoryContent → Addition → DocumentWrite
-written_in h a = record { id = a.id; write = record { path = a.path ++ behind h a.parent; deleted = a.deleted; body = a.body } }
+written_in h a = record { id = a.id; write = record { path = a.path ++ ancestors_of_parent h a.parent; deleted = a.deleted; body = a.body } }
 
 -- the write that it is in this database
 abbrev pub written_at : Database → Addition → DocumentWrite

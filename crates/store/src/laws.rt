@@ -11,7 +11,7 @@ ghost use Rattle.store.specs.Database.{Database, Document, DocumentWrite, HasSeq
 ghost use Rattle.store.specs.Database.{empty_database, with_all, with_one, with_write_logged};
 ghost use Rattle.store.specs.Failing.{calls_later, failing_call, failures_of};
 ghost use Rattle.store.specs.Indexes.{IndexPlace, IsPlaceOf, index_rows, place_order, queried_document, winning_body};
-ghost use Rattle.store.specs.Lawful.{IsBody, IsLawful};
+ghost use Rattle.store.specs.Lawful.{IsBody, IsLawfulDatabase};
 ghost use Rattle.store.specs.Pages.{IsIdRowOf, IsRowOf, SequenceRow, comes_before, is_within, live_rev, page_of_ids, page_by_sequence, row_of};
 ghost use Rattle.store.specs.Winning.{winner_alone};
 ghost use Rattle.store.specs.Writing.{Addition, writings_in};
@@ -62,20 +62,21 @@ pub fn sequences()
 /// An empty database is lawful, and each acceptable write, and so any number of them, keeps it so, as
 /// do another security object, and a local document with a body.
 pub fn lawful_databases()
-    ensures empty { (security : Value) → IsLawful (empty_database security) }
-    ensures by_one { (db : Database) (w : DocumentWrite) → IsLawful db → IsAcceptable db w → IsLawful (with_one db w) }
-    ensures by_all { (ws : List DocumentWrite) (db : Database) → IsLawful db → AreAcceptable db ws → IsLawful (with_all db ws) }
-    ensures secured { (db : Database) (security : Value) → IsLawful db → IsLawful (with_security db security) }
-    ensures local { (db : Database) (id : List ℕ) (document : LocalDocument) → IsLawful db → IsBody document.body → IsLawful (with_local db id document) }
+    ensures empty { (security : Value) → IsLawfulDatabase (empty_database security) }
+    ensures by_one { (db : Database) (w : DocumentWrite) → IsLawfulDatabase db → IsAcceptable db w → IsLawfulDatabase (with_one db w) }
+    ensures by_all { (ws : List DocumentWrite) (db : Database) → IsLawfulDatabase db → AreAcceptable db ws → IsLawfulDatabase (with_all db ws) }
+    ensures secured { (db : Database) (security : Value) → IsLawfulDatabase db → IsLawfulDatabase (with_security db security) }
+    ensures local { (db : Database) (id : List ℕ) (document : LocalDocument) → IsLawfulDatabase db → IsBody document.body
+        → IsLawfulDatabase (with_local db id document) }
 {}
 
 /// Each document of a lawful database has a winner, something is held of it, and each body that is
 /// held is an object that is not nested too deep.
 pub fn lawful_documents()
-    ensures winner { (db : Database) (id : List ℕ) (d : Document) → IsLawful db → get db.documents id ≡ Some d → IsTrue (is_some (winner d.history)) }
-    ensures held { (db : Database) (id : List ℕ) (d : Document) (r : Revision) → IsLawful db → get db.documents id ≡ Some d
+    ensures winner { (db : Database) (id : List ℕ) (d : Document) → IsLawfulDatabase db → get db.documents id ≡ Some d → IsTrue (is_some (winner d.history)) }
+    ensures held { (db : Database) (id : List ℕ) (d : Document) (r : Revision) → IsLawfulDatabase db → get db.documents id ≡ Some d
         → winner d.history ≡ Some r → IsTrue (is_some (held_of d.history r)) }
-    ensures body { (db : Database) (id : List ℕ) (d : Document) (r : Revision) (held : Held) → IsLawful db → get db.documents id ≡ Some d
+    ensures body { (db : Database) (id : List ℕ) (d : Document) (r : Revision) (held : Held) → IsLawfulDatabase db → get db.documents id ≡ Some d
         → held_of d.history r ≡ Some held → IsBody held.body }
 {}
 

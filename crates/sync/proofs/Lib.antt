@@ -3,3 +3,7 @@ pub mod Printing
 pub mod Refusals
 pub mod Absence
 pub mod Segments
+pub mod Logs
+pub mod Reading
+pub mod Written
+pub mod Made

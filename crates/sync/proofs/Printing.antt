@@ -5,7 +5,7 @@ use Rattle.std.specs.Io.KnownBytes.{Appends}
 use Rattle.std.specs.Prelude.{◌⊎◌, IfErr, IsErrAnd, Result, Ok, Err, false}
 use Rattle.command_line.specs.declared.fault.ProgramFault.{ProgramFault}
 use Rattle.command_line.specs.declared.fault.ProgramFault.TheVariants.{File, Line, Memory, Socket}
-use Rattle.streams.specs.Writing.{Takes}
+use Rattle.couch_http.specs.Writing.{Takes}
 use Rattle.sync.specs.Ending.{IsUntold, IsUnwritten, StandsIn}
 use Rattle.sync.specs.Turns.{RunsOut, TurnOf}
 

@@ -7,7 +7,9 @@ use Rattle.repl.specs.Passes.{Asked}
 use Rattle.std.specs.Prelude.{◌&&◌, Some, false, nat_le}
 use Rattle.world.specs.Happening.{Happening, Sight, comes, exchanges}
 use Rattle.world.specs.Network.{Network, Transfer}
-use Rattle.world.specs.Playing.{Plays, StandAs, Stands}
+use Rattle.world.specs.Playing.{Plays}
+use Rattle.world.specs.Leaving.{LeavesPlayed, StandAs}
+use Rattle.world.specs.Service.{alike}
 use Rattle.world.specs.OneEvent.{IsUnknownAt, happening_of, is_known, was_started}
 use Rattle.world.specs.declared.event.Event.TheVariants.{Exchange}
 use Rattle.world.specs.declared.fate.Fate.TheVariants.{Answered, ReplyLost}
@@ -35,19 +37,19 @@ lost_none earlier h e =
     omega (arith, none, length-append earlier (h ∷ []))
 
 module _ {S : Type 0} (g : Ghosts S) (number : ℕ) (kind : WorldFaultKind) (before after : Network S) (stood : List Happening) (seen : List Sight) where
-  none_stands : StandAs kind [] stood → Plays (StoreSteps g) before stood seen after → BreaksOff g number before after
-  none_stands (inl e) left = inl ((subst (λ (hs : List Happening). Plays (StoreSteps g) before hs seen after) e left).1)
+  none_stands : StandAs kind [] stood → Plays (alike (StoreSteps g)) before stood seen after → BreaksOff g number before after
+  none_stands (inl e) left = inl ((subst (λ (hs : List Happening). Plays (alike (StoreSteps g)) before hs seen after) e left).1)
   none_stands (inr l) left = absurd (lost_none l.1.earlier (exchanges l.1.number Answered) l.1.asked)
 
-  one_stands : StandAs kind (exchanges number Answered ∷ []) stood → Plays (StoreSteps g) before stood seen after → BreaksOff g number before after
-  one_stands (inl e) left = inr ((Answered, (λ h. absurd cc), (seen, subst (λ (hs : List Happening). Plays (StoreSteps g) before hs seen after) e left)))
+  one_stands : StandAs kind (exchanges number Answered ∷ []) stood → Plays (alike (StoreSteps g)) before stood seen after → BreaksOff g number before after
+  one_stands (inl e) left = inr ((Answered, (λ h. absurd cc), (seen, subst (λ (hs : List Happening). Plays (alike (StoreSteps g)) before hs seen after) e left)))
   one_stands (inr l) left =
       let is = lost_by number stood l.1.earlier l.1.number l.1.asked l.1.lost in
-      inr ((ReplyLost, (λ h. absurd cc), (seen, subst (λ (hs : List Happening). Plays (StoreSteps g) before hs seen after) is left)))
+      inr ((ReplyLost, (λ h. absurd cc), (seen, subst (λ (hs : List Happening). Plays (alike (StoreSteps g)) before hs seen after) is left)))
 
 -- a refusal of one exchange
 pub breaks_off : {S : Type 0} (g : Ghosts S) (number : ℕ) (kind : WorldFaultKind) (before after : Network S) (played : ℕ) → played ≤ 1
-    → Stands (StoreSteps g) kind before (map happening_of (take played (Exchange number ∷ []))) after → BreaksOff g number before after
+    → LeavesPlayed (alike (StoreSteps g)) kind before (map happening_of (take played (Exchange number ∷ []))) after → BreaksOff g number before after
 breaks_off g number kind before after zero within s = none_stands g number kind before after s.stood s.seen s.kept s.left
 breaks_off g number kind before after (suc zero) within s = one_stands g number kind before after s.stood s.seen s.kept s.left
 breaks_off g number kind before after (suc (suc n)) within s = absurd (omega (arith, within))

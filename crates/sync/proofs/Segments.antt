@@ -6,7 +6,7 @@ use Rattle.std.proofs.lemmas.List.Sums.{position_or_len_is}
 use Rattle.std.specs.List.{position_or_len}
 use Rattle.percent_encoding.proofs.PercentLemmas.{All-percent_encode, IsEscapeByte}
 use Rattle.percent_encoding.specs.AsciiSet.{should_percent_encode}
-use Rattle.repl.specs.Calls.{path_of}
+use Rattle.repl.specs.Calls.{page_path}
 use Rattle.repl.specs.Spelling.{reserved_bytes, segment}
 use Rattle.sync.specs.Information.{first_segment, is_slash}
 
@@ -41,7 +41,7 @@ module _ (name page : List ℕ) where
       (λ k lt. ap is_slash (get_or_append_left (segment name) (47 ∷ page) 0 k lt) ∙ segment_has_no_slash name k 0 lt)
       (λ lt. ap is_slash (get_or_at (segment name) 47 page 0 (length (segment name)) refl))
 
-  pub database_is_first : first_segment (path_of name page) ≡ segment name
+  pub database_is_first : first_segment (page_path name page) ≡ segment name
   database_is_first =
-      let spelled : path_of name page ≡ 47 ∷ (segment name ++ (47 ∷ page)) = grind (arith, append_assoc) in
+      let spelled : page_path name page ≡ 47 ∷ (segment name ++ (47 ∷ page)) = grind (arith, append_assoc) in
       ap first_segment spelled ∙ take_at (segment name) (47 ∷ page) _ (sym slash_behind)

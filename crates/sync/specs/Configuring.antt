@@ -3,7 +3,7 @@
 use Rattle.std.specs.Prelude.{List, ℕ, [], ◌++◌, Some, codes, option_map}
 use Rattle.auth.specs.Hmac.{token_of}
 use Rattle.command_line.specs.Plan.{SideAsked, SyncAsked, file_asked, address_asked}
-use Rattle.repl.specs.Configuration.{Account, Configuration}
+use Rattle.repl.specs.Configuration.{Account, PassConfiguration}
 
 -- the name of a side: the place, a slash, and the database
 abbrev pub side_name : List ℕ → List ℕ → List ℕ
@@ -19,7 +19,7 @@ abbrev pub account_named : List ℕ → List ℕ → Account
 account_named secret name = record { name = name; roles = []; token = token_of secret name }
 
 -- what a pass is told
-abbrev pub pass_configuration : SyncAsked → Configuration
+abbrev pub pass_configuration : SyncAsked → PassConfiguration
 pass_configuration asked = record {
   source = side_name (place_of asked.source) asked.database;
   source_db = asked.database;

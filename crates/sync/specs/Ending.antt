@@ -7,7 +7,7 @@ use Rattle.command_line.specs.declared.fault.ProgramFault.TheVariants.{File, Lin
 use Rattle.couch_json.specs.Value.{Value}
 use Rattle.repl.specs.Ending.{summary_text, why_text}
 use Rattle.repl.specs.Passes.{Asked, to_source, to_target, done, stopped_by}
-use Rattle.streams.specs.Writing.{Takes}
+use Rattle.couch_http.specs.Writing.{Takes}
 use Rattle.sync.specs.Turns.{ComesToEnd, RunsOut, TurnOf}
 
 -- the report as a line, behind `stopped WHY ` where the pass stopped; nothing while it has a request

@@ -5,7 +5,7 @@ use Rattle.std.specs.List.{before_first, after_first}
 use Rattle.couch_http.specs.Message.{Message}
 use Rattle.couch_http.specs.Reply.{Reply}
 use Rattle.repl.specs.Calls.{headers_of}
-use Rattle.repl.specs.Configuration.{Configuration}
+use Rattle.repl.specs.Configuration.{PassConfiguration}
 use Rattle.repl.specs.Replies.{value_in}
 use Rattle.repl.specs.Shapes.{count_at}
 use Rattle.repl.specs.Spelling.{segment}
@@ -20,7 +20,7 @@ abbrev pub first_segment : List ℕ → List ℕ
 first_segment path = before_first is_slash (after_first is_slash path)
 
 -- the request for it, as the user of the pass
-abbrev pub information_request : Configuration → Message
+abbrev pub information_request : PassConfiguration → Message
 information_request c = record {
   method = codes "GET";
   path = codes "/" ++ segment c.source_db;

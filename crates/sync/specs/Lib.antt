@@ -8,3 +8,6 @@ pub mod Configuring
 pub mod Creating
 pub mod Information
 pub mod Terminal
+pub mod Streams
+pub mod Exchange
+pub mod Persistence

@@ -1,7 +1,9 @@
 //! The server at an address, as a side of a pass.
 
+use crate::exchange_end::ExchangeEnd;
+use crate::exchanging::make_exchange;
+use crate::logged::Logged;
 use crate::side::Side;
-use client::{ExchangeEnd, Logged, make_exchange};
 use couch_http::{Request, Response};
 use couch_json::{Got, NoMemory};
 use std::alloc::Global;

@@ -8,11 +8,11 @@ ghost use Rattle.repl.specs.Ending.{summary_text};
 ghost use Rattle.sync.specs.Ending.{IsUnwritten, end_text, status_of, status_of_refused};
 
 use command_line::ProgramFault;
+use couch_http::write_bytes;
 use couch_json::{Got, Json, NoMemory};
 use repl::{Ask, Report, print_why};
 use std::alloc::Global;
 use std::io::Write;
-use streams::write_bytes;
 
 /// Prints the report of a pass as one line, behind `stopped WHY ` where it stopped. Nothing is printed of
 /// a pass that has a request.

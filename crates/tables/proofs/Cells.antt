@@ -1,5 +1,5 @@
 -- What the tests of a statement say of the cells of a row.
-use Rattle.tables.proofs.Common.{AllByRecursion, AreKeyed, Binary, Blob, Bool, Equal, Int, IsKeyed, List, Null, Row, Term, Text, Value, [], all_weaker, ap, ap₂, bytes_eq, cast, col, column, comes_after, cond, db_of, false, holds, id_of, is_eq-slice_cmp, is_in, is_of, list_all, listed_document, nat_cmp, op2, ordering_then, pos, refl, sequence_of, slice_cmp, then-Equal, true, value_cmp, value_cmp-Blob, ℕ, ℤ, ◌&&◌, ◌∙◌, ◌∷◌, ◌≡◌}
+use Rattle.tables.proofs.Common.{AllByRecursion, AreKeyed, Binary, Blob, Bool, Equal, Int, IsKeyed, List, Null, Row, Term, Text, Value, [], all_weaker, ap, ap₂, bytes_eq, cast, col, column, comes_after, cond, db_of, false, holds, id_of, is_eq-slice_cmp, is_row_of_database, is_row_of_document, list_all, listed_document, nat_cmp, op2, ordering_then, pos, refl, sequence_of_row, slice_cmp, then-Equal, true, value_cmp, value_cmp-Blob, ℕ, ℤ, ◌&&◌, ◌∙◌, ◌∷◌, ◌≡◌}
 use Rattle.sqlite_sql.specs.declared.ops.BinaryOp.TheVariants.{Compare}
 use Rattle.sqlite_sql.specs.declared.ops.CompareOp.{CompareOp}
 use Rattle.sqlite_sql.specs.declared.ops.CompareOp.TheVariants.{Eq, Gt}
@@ -48,12 +48,12 @@ by_db = compares Eq 1 0 ∷ []
 abbrev pub by_id : List Term
 by_id = compares Eq 1 0 ∷ compares Eq 2 1 ∷ []
 
-pub tests_db : (db : ℤ) (rows : List Row) → AreKeyed rows → AllByRecursion (λ r. list_all (holds ((Int db ∷ []) ∷ r ∷ [])) by_db ≡ is_in db r) rows
-tests_db db rows h = all_weaker IsKeyed (λ r. list_all (holds ((Int db ∷ []) ∷ r ∷ [])) by_db ≡ is_in db r) (λ r k. last_term (int_by Eq (column r 1) (db_of r) db k.db)) rows h.keyed
+pub tests_db : (db : ℤ) (rows : List Row) → AreKeyed rows → AllByRecursion (λ r. list_all (holds ((Int db ∷ []) ∷ r ∷ [])) by_db ≡ is_row_of_database db r) rows
+tests_db db rows h = all_weaker IsKeyed (λ r. list_all (holds ((Int db ∷ []) ∷ r ∷ [])) by_db ≡ is_row_of_database db r) (λ r k. last_term (int_by Eq (column r 1) (db_of r) db k.db)) rows h.keyed
 
-pub tests_id : (db : ℤ) (id : List ℕ) (rest : Row) (rows : List Row) → AreKeyed rows → AllByRecursion (λ r. list_all (holds ((Int db ∷ Blob id ∷ rest) ∷ r ∷ [])) by_id ≡ is_of db id r) rows
+pub tests_id : (db : ℤ) (id : List ℕ) (rest : Row) (rows : List Row) → AreKeyed rows → AllByRecursion (λ r. list_all (holds ((Int db ∷ Blob id ∷ rest) ∷ r ∷ [])) by_id ≡ is_row_of_document db id r) rows
 tests_id db id rest rows h =
-    all_weaker IsKeyed (λ r. list_all (holds ((Int db ∷ Blob id ∷ rest) ∷ r ∷ [])) by_id ≡ is_of db id r)
+    all_weaker IsKeyed (λ r. list_all (holds ((Int db ∷ Blob id ∷ rest) ∷ r ∷ [])) by_id ≡ is_row_of_document db id r)
     (λ r k. then_term (int_by Eq (column r 1) (db_of r) db k.db) (last_term (same_blob (column r 2) (id_of r) id k.id))) rows h.keyed
 
 -- ---- the tests by a sequence
@@ -61,8 +61,8 @@ tests_id db id rest rows h =
 abbrev pub by_later : List Term
 by_later = compares Eq 1 0 ∷ compares Gt 3 1 ∷ []
 
-pub tests_later : (db since limit : ℤ) (rows : List Row) → AllByRecursion (λ r. (column r 1 ≡ Int (db_of r)) × (column r 3 ≡ Int (pos (sequence_of r)))) rows
-    → AllByRecursion (λ r. list_all (holds ((Int db ∷ Int since ∷ Int limit ∷ []) ∷ r ∷ [])) by_later ≡ (is_in db r && comes_after since (listed_document r))) rows
+pub tests_later : (db since limit : ℤ) (rows : List Row) → AllByRecursion (λ r. (column r 1 ≡ Int (db_of r)) × (column r 3 ≡ Int (pos (sequence_of_row r)))) rows
+    → AllByRecursion (λ r. list_all (holds ((Int db ∷ Int since ∷ Int limit ∷ []) ∷ r ∷ [])) by_later ≡ (is_row_of_database db r && comes_after since (listed_document r))) rows
 tests_later db since limit rows all =
-    all_weaker (λ r. (column r 1 ≡ Int (db_of r)) × (column r 3 ≡ Int (pos (sequence_of r)))) (λ r. list_all (holds ((Int db ∷ Int since ∷ Int limit ∷ []) ∷ r ∷ [])) by_later ≡ (is_in db r && comes_after since (listed_document r)))
-    (λ r k. then_term (int_by Eq (column r 1) (db_of r) db k.0) (last_term (int_by Gt (column r 3) (pos (sequence_of r)) since k.1))) rows all
+    all_weaker (λ r. (column r 1 ≡ Int (db_of r)) × (column r 3 ≡ Int (pos (sequence_of_row r)))) (λ r. list_all (holds ((Int db ∷ Int since ∷ Int limit ∷ []) ∷ r ∷ [])) by_later ≡ (is_row_of_database db r && comes_after since (listed_document r)))
+    (λ r k. then_term (int_by Eq (column r 1) (db_of r) db k.0) (last_term (int_by Gt (column r 3) (pos (sequence_of_row r)) since k.1))) rows all

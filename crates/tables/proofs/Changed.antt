@@ -1,5 +1,5 @@
 -- The rows of the databases, where the one of a name becomes another of its number and its name.
-use Rattle.tables.proofs.Common.{AllByRecursion, AreNumbered, Int, IsAscending, IsLaid, List, Row, Some, Trees, all_map, all_weaker, any_is_found, ap, arith, ascending-map, ascending_weaker, bytes_eq, cond_both, contents_in, database_at, database_of, dbs_tree, false, filter, filter-map, filter_same, has_number, if◌then◌else◌, inside, is_named, length_of, list_any, map, map-map, map_same, name_of, number_of, option_map, refl, rowid, same, same_int, slice_get, subst, subst₂, sym, true, ℕ, ℤ, ◌∙◌, ◌≡◌, ◌≢◌, ◌≤◌}
+use Rattle.tables.proofs.Common.{AllByRecursion, AreNumbered, Int, IsAscending, IsWellFormed, List, Row, Some, Trees, all_map, all_weaker, any_is_found, ap, arith, ascending-map, ascending_weaker, bytes_eq, cond_both, contents_in, database_row_at, database_of_row, dbs_tree, false, filter, filter-map, filter_same, has_number, if◌then◌else◌, inside, is_named, sequence_of_database, list_any, map, map-map, map_same, name_of, number_of, option_map, refl, rowid, same, same_int, slice_get, subst, subst₂, sym, true, ℕ, ℤ, ◌∙◌, ◌≡◌, ◌≢◌, ◌≤◌}
 use Rattle.std.proofs.lemmas.Option.{slice_get-map}
 use Rattle.std.specs.FinMap as finite
 use Rattle.sqlite_keyed.proofs.KeyedLemmas.{IsKeyedBy-update_where, get_by-update_where, has_key-update_where}
@@ -35,13 +35,13 @@ module _ (n : ℤ) (f : Row → Row) (numbers : (r : Row) → number_of (f r) �
 
   -- ---- what is found
 
-  pub found_changed : (rows : List Row) (m : ℤ) → database_at (map changed rows) m ≡ option_map changed (database_at rows m)
+  pub found_changed : (rows : List Row) (m : ℤ) → database_row_at (map changed rows) m ≡ option_map changed (database_row_at rows m)
   found_changed rows m = get_by-update_where number_of (has_number n) f numbers rows m
 
   pub number_stays : (rows : List Row) (m : ℤ) → list_any (has_number m) (map changed rows) ≡ list_any (has_number m) rows
   number_stays rows m = any_is_found (has_number m) (map changed rows) ∙ has_key-update_where number_of (has_number n) f numbers rows m ∙ sym (any_is_found (has_number m) rows)
 
-module _ (trees : Trees) (h : IsLaid trees) (name : List ℕ) (d : Row) (is : slice_get (filter (is_named name) (trees dbs_tree)) 0 ≡ Some d)
+module _ (trees : Trees) (h : IsWellFormed trees) (name : List ℕ) (d : Row) (is : slice_get (filter (is_named name) (trees dbs_tree)) 0 ≡ Some d)
     (f : Row → Row) (numbers : (r : Row) → number_of (f r) ≡ number_of r) (names : (r : Row) → name_of (f r) ≡ name_of r) where
   abbrev rows : List Row
   rows = map (changed (number_of d) f numbers names) (trees dbs_tree)
@@ -57,27 +57,27 @@ module _ (trees : Trees) (h : IsLaid trees) (name : List ℕ) (d : Row) (is : sl
       ∙ slice_get-map one (filter (is_named name) (trees dbs_tree)) 0 ∙ ap (option_map one) is ∙ ap Some changed_row
 
   -- the contents, where the databases of other rows are as they were
-  pub contents_changed : (new : Trees) (x : Database) → new dbs_tree ≡ rows → database_of new (f d) ≡ x → ((r : Row) → has_number (number_of d) r ≡ false → database_of new r ≡ database_of trees r)
+  pub contents_changed : (new : Trees) (x : Database) → new dbs_tree ≡ rows → database_of_row new (f d) ≡ x → ((r : Row) → has_number (number_of d) r ≡ false → database_of_row new r ≡ database_of_row trees r)
       → contents_in new ≡ finite.insert (contents_in trees) name x
   contents_changed new x same own others =
       let one = changed (number_of d) f numbers names in
-      ap (λ l. finite.from_entries (map (λ r. (name_of r, database_of new r)) l)) same
-      ∙ ap finite.from_entries (map-map (λ r. (name_of r, database_of new r)) one (trees dbs_tree)
-      ∙ map_same _ (λ r. (name_of r, database_of new (one r))) (λ r. ap (λ k. (k, database_of new (one r))) (name_kept (number_of d) f numbers names r)) (trees dbs_tree))
-      ∙ one_changed trees h name d is (λ r. database_of new (one r)) x (ap (database_of new) changed_row ∙ own) (λ r out. ap (λ b. database_of new (if b then f r else r)) out ∙ others r out)
+      ap (λ l. finite.from_entries (map (λ r. (name_of r, database_of_row new r)) l)) same
+      ∙ ap finite.from_entries (map-map (λ r. (name_of r, database_of_row new r)) one (trees dbs_tree)
+      ∙ map_same _ (λ r. (name_of r, database_of_row new (one r))) (λ r. ap (λ k. (k, database_of_row new (one r))) (name_kept (number_of d) f numbers names r)) (trees dbs_tree))
+      ∙ one_changed trees h name d is (λ r. database_of_row new (one r)) x (ap (database_of_row new) changed_row ∙ own) (λ r out. ap (λ b. database_of_row new (if b then f r else r)) out ∙ others r out)
 
   -- the row of its number is the changed one
-  pub own_changed : (r : Row) → database_at rows (number_of d) ≡ Some r → r ≡ f d
+  pub own_changed : (r : Row) → database_row_at rows (number_of d) ≡ Some r → r ≡ f d
   own_changed r now =
       inside r (f d) (sym now ∙ found_changed (number_of d) f numbers names (trees dbs_tree) (number_of d) ∙ ap (option_map (changed (number_of d) f numbers names)) (at_number trees h name d is) ∙ ap Some changed_row)
 
   -- where the length grows, no length falls
-  pub longer : length_of d ≤ length_of (f d) → (m : ℤ) (r : Row) → database_at rows m ≡ Some r → (x : Row) × (database_at (trees dbs_tree) m ≡ Some x) × (length_of x ≤ length_of r)
+  pub longer : sequence_of_database d ≤ sequence_of_database (f d) → (m : ℤ) (r : Row) → database_row_at rows m ≡ Some r → (x : Row) × (database_row_at (trees dbs_tree) m ≡ Some x) × (sequence_of_database x ≤ sequence_of_database r)
   longer grows m r now =
-      let x = mapped_some (changed (number_of d) f numbers names) (database_at (trees dbs_tree) m) r (sym (found_changed (number_of d) f numbers names (trees dbs_tree) m) ∙ now) in
-      let low : length_of x.0 ≤ length_of (changed (number_of d) f numbers names x.0) =
-      cond_both (has_number (number_of d) x.0) (f x.0) x.0 (λ y. length_of x.0 ≤ length_of y) (λ here.
+      let x = mapped_some (changed (number_of d) f numbers names) (database_row_at (trees dbs_tree) m) r (sym (found_changed (number_of d) f numbers names (trees dbs_tree) m) ∙ now) in
+      let low : sequence_of_database x.0 ≤ sequence_of_database (changed (number_of d) f numbers names x.0) =
+      cond_both (has_number (number_of d) x.0) (f x.0) x.0 (λ y. sequence_of_database x.0 ≤ sequence_of_database y) (λ here.
       let own : m ≡ number_of d = sym (same_int (number_of x.0) m (find_passes (has_number m) (trees dbs_tree) x.0 x.1)) ∙ same_int (number_of x.0) (number_of d) here in
-      let same : d ≡ x.0 = inside d x.0 (sym (at_number trees h name d is) ∙ ap (database_at (trees dbs_tree)) (sym own) ∙ x.1) in
-      subst (λ (y : Row). length_of y ≤ length_of (f y)) same grows) (λ out. omega arith) in
-      (x.0, x.1, subst (λ (y : Row). length_of x.0 ≤ length_of y) x.2 low)
+      let same : d ≡ x.0 = inside d x.0 (sym (at_number trees h name d is) ∙ ap (database_row_at (trees dbs_tree)) (sym own) ∙ x.1) in
+      subst (λ (y : Row). sequence_of_database y ≤ sequence_of_database (f y)) same grows) (λ out. omega arith) in
+      (x.0, x.1, subst (λ (y : Row). sequence_of_database x.0 ≤ sequence_of_database y) x.2 low)

@@ -65,10 +65,10 @@ pub use Rattle.store.specs.declared.local_document.LocalDocument.{LocalDocument}
 pub use Rattle.store.specs.declared.listing.IdRow.{IdRow}
 pub use Rattle.tables.specs.Calls.{Reads, ReadsInside}
 pub use Rattle.tables.specs.Edits.{AreInserted, HasWritten, IsStorable, IsWritable, IsWrite, history_after, history_before, new_entries, row_after, with_revisions}
-pub use Rattle.tables.specs.Layout.{AreDatabaseRows, AreDocumentRows, AreKeyed, AreNumbered, IsDatabaseNumber, IsDatabaseRow, IsDocumentRow, IsEmpty, IsFirstStore, IsKeyed, IsLaid, IsLaidAt, IsLocalRow, IsNew, IsRenewed, IsRevisionRow, IsStore, database_at, version_row}
+pub use Rattle.tables.specs.Layout.{AreDatabaseRows, AreDocumentRows, AreKeyed, AreNumbered, IsDatabaseNumber, IsDatabaseRow, IsDocumentRow, IsEmpty, IsFirstStore, IsKeyed, IsWellFormed, IsLaidAt, IsLocalRow, IsNew, IsRenewed, IsRevisionRow, IsStore, database_row_at, version_row}
 pub use Rattle.tables.specs.Listings.{IsListedDocument, comes_after, first_rows, leaves_row, listed_counts, listed_id, listed_mark, live_row, live_rows, sequence_row}
 pub use Rattle.tables.specs.Presence.{has_all, shown_version, version_in, version_shown}
-pub use Rattle.tables.specs.Rows.{body_cell, by_id, by_name, by_sequence, contents_in, count, count_in, database_cells, database_of, database_row, db_of, document_cells, document_of, document_row, documents_in, entry_of, flag, given_cells, has_number, history_in, id_of, is_gone, is_held, is_in, is_marked, is_named, is_of, is_revision_of, is_set, json_in, length_of, listed_document, local_cells, local_of, local_row, locals_in, name_of, next_number, number_of, parent_cell, parent_in, revision_cells, revision_of, revision_row, row_at_sequence, row_with_security, row_with_winner, rows_at_sequence, rows_with_document, rows_with_security, rows_with_winner, security_of, security_text, sequence_of, shown_database, shown_document, shown_hash, shown_local, shown_name, shown_outline, shown_revision, text_cell, value_or_null, whole_in, winner_text, with_cells}
+pub use Rattle.tables.specs.Rows.{body_cell, by_id, by_name, by_sequence, contents_in, count_cell, count_in_cell, database_cells, database_of_row, database_row, db_of, document_cells, document_of_row, document_row, documents_in_rows, entry_of, flag, given_cells, has_number, history_in_rows, id_of, is_gone_row, is_held, is_row_of_database, is_held_deleted, is_named, is_row_of_document, is_revision_of, is_set, json_in_cell, sequence_of_database, listed_document, local_cells, local_of, local_row, locals_in, name_of, next_number, number_of, parent_cell, parent_in, revision_cells, revision_of_row, revision_row, row_at_sequence, row_with_security, row_with_winner, rows_at_sequence, rows_with_document, rows_with_security, rows_with_winner, security_of, security_text, sequence_of_row, shown_database, shown_document, shown_hash, shown_local, shown_name, shown_outline, shown_revision, text_cell, read_or_null, whole_in_cell, winner_text, with_cells}
 pub use Rattle.tables.specs.Schema.{dbs_table, dbs_tree, docs_table, docs_tree, locals_table, locals_tree, meta_table, meta_tree, revs_table, revs_tree, schema, decls_table, decls_tree, entries_table, entries_tree}
 pub use Rattle.tables.specs.Shown.{IsCount, IsShownDatabase, IsShownDocument, IsShownHash, IsShownLocal, IsShownOutline, IsShownRevision, SpellsJson, SpellsParentOf, SpellsRevision}
 pub use Rattle.tables.specs.Steps.{AddsTable, Asks, AsksInside, Changes, OnlyLooks, Proceeds, Ran}
@@ -78,8 +78,8 @@ pub use Rattle.tree.proofs.RevisionText.{IsUtf8-revision, parts, read_of_text}
 pub use Rattle.tree.proofs.Revisions.{revision_cmp_exact, same, tied}
 pub use Rattle.tree.proofs.Shown.{inside, right_some, stands_found, whole_counts}
 pub use Rattle.tree.specs.DocumentId.{is_document_id}
-pub use Rattle.tree.specs.History.{HistoryContent, IsBetter, behind, held_of, is_deleted, is_known, is_leaf, leaves, path_entries, placement, winner, with_entries, with_write, write_entries}
+pub use Rattle.tree.specs.History.{HistoryContent, IsBetter, ancestors_of_parent, held_of, is_deleted, is_known, is_leaf, leaves, path_entries, placement, winner, with_entries, with_write, write_entries}
 pub use Rattle.tree.specs.Nodes.{entries_before, next_of}
 pub use Rattle.tree.specs.Revision.{Revision, greatest_number, is_revision, revision_cmp, revision_read, text_of}
-pub use Rattle.tree.specs.Write.{StandsIn, counts_down, head, held_by}
+pub use Rattle.tree.specs.Write.{StandsIn, counts_down, head, held_of_write}
 pub use Rattle.tree.specs.declared.entry.Entry.{Entry}

@@ -1,5 +1,5 @@
 -- What the statements on databases mean.
-use Rattle.tables.proofs.Common.{AllByRecursion, AreDatabaseRows, AreNumbered, Binary, Blob, Changes, Delete, IfOk, Insert, Int, IsStore, Key, List, Null, OnOk, Ran, Result, Row, Select, Shown, State, Term, Text, Update, Values, [], all_of, all_weaker, ap, by_name, cast_row, codes, col, column, database_cells, database_row, dbs_table, dbs_tree, drop, everything, false, filter, filter_all, has_number, holds, is_named, length_of, list_all, lit, map, name_of, nat_list_cmp_total, number_of, pos, refl, rowid, rows_at_sequence, rows_with_security, schema, security_text, shown_database, shown_name, sort_by, subst, true, understood, ℕ, ℤ, ◌∙◌, ◌∷◌, ◌≡◌, ◌≢◌}
+use Rattle.tables.proofs.Common.{AllByRecursion, AreDatabaseRows, AreNumbered, Binary, Blob, Changes, Delete, IfOk, Insert, Int, IsStore, Key, List, Null, OnOk, Ran, Result, Row, Select, Shown, State, Term, Text, Update, Values, [], all_of, all_weaker, ap, by_name, cast_row, codes, col, column, database_cells, database_row, dbs_table, dbs_tree, drop, everything, false, filter, filter_all, has_number, holds, is_named, sequence_of_database, list_all, lit, map, name_of, nat_list_cmp_total, number_of, pos, refl, rowid, rows_at_sequence, rows_with_security, schema, security_text, shown_database, shown_name, sort_by, subst, true, understood, ℕ, ℤ, ◌∙◌, ◌∷◌, ◌≡◌, ◌≢◌}
 use Rattle.tables.proofs.RowMaps.{text_exact, untied}
 use Rattle.tables.proofs.Sorted.{lists}
 use Rattle.sqlite_typed.proofs.TestLemmas.{last_term}
@@ -72,7 +72,7 @@ abbrev shown_advanced : ℤ → Row → Row
 shown_advanced sequence r = column r 0 ∷ column r 0 ∷ Null ∷ column r 2 ∷ column r 3 ∷ Int sequence ∷ []
 
 abbrev IsOne : Row → Type 0
-IsOne r = r ≡ database_row (number_of r) (name_of r) (security_text r) (pos (length_of r))
+IsOne r = r ≡ database_row (number_of r) (name_of r) (security_text r) (pos (sequence_of_database r))
 
 cast_secured : (text : List ℕ) (n : ℤ) (name was : List ℕ) (sequence : ℤ) → cast_row dbs_table (drop 1 (shown_secured text (database_row n name was sequence))) ≡ database_row n name text sequence
 cast_secured text n name was sequence = λ i. cast_int n i ∷ cast_null i ∷ Blob name ∷ Text text ∷ cast_int sequence i ∷ []
@@ -85,8 +85,8 @@ module _ {X E : Type 0} (old new : State) (has : old.now.schema ≡ schema) (lai
       → OnOk r (Changes dbs_tree (rows_with_security n text (old.now.trees dbs_tree)) old.now new.now)
   secures_database n text r h =
       updates_where schema 1 dbs_table dbs_plain old new has secure_text by_number (col 1 0 ∷ col 1 0 ∷ lit Null ∷ col 1 2 ∷ col 0 1 ∷ col 1 4 ∷ []) secure_is (Int n ∷ Text text ∷ []) (has_number n)
-      (shown_secured text) (λ x. database_row (number_of x) (name_of x) text (pos (length_of x))) IsOne refl (λ x. refl) (λ x. refl)
-      (λ x k. ap (λ y. cast_row dbs_table (drop 1 (shown_secured text y))) k ∙ cast_secured text (number_of x) (name_of x) (security_text x) (pos (length_of x))) (λ x. refl) (λ x. refl)
+      (shown_secured text) (λ x. database_row (number_of x) (name_of x) text (pos (sequence_of_database x))) IsOne refl (λ x. refl) (λ x. refl)
+      (λ x k. ap (λ y. cast_row dbs_table (drop 1 (shown_secured text y))) k ∙ cast_secured text (number_of x) (name_of x) (security_text x) (pos (sequence_of_database x))) (λ x. refl) (λ x. refl)
       (numbered_databases _ laid) laid.each (one_numbered _ laid.rising n) (tests_number n (Text text ∷ []) _ (numbered_databases _ laid)) r h
 
   pub advances_database : (n sequence : ℤ) (r : Result X E) → OnOk r (Ran advance_text (Int n ∷ Int sequence ∷ []) old new)
@@ -94,7 +94,7 @@ module _ {X E : Type 0} (old new : State) (has : old.now.schema ≡ schema) (lai
   advances_database n sequence r h =
       updates_where schema 1 dbs_table dbs_plain old new has advance_text by_number (col 1 0 ∷ col 1 0 ∷ lit Null ∷ col 1 2 ∷ col 1 3 ∷ col 0 1 ∷ []) advance_is (Int n ∷ Int sequence ∷ []) (has_number n)
       (shown_advanced sequence) (λ x. database_row (number_of x) (name_of x) (security_text x) sequence) IsOne refl (λ x. refl) (λ x. refl)
-      (λ x k. ap (λ y. cast_row dbs_table (drop 1 (shown_advanced sequence y))) k ∙ cast_advanced sequence (number_of x) (name_of x) (security_text x) (pos (length_of x))) (λ x. refl) (λ x. refl)
+      (λ x k. ap (λ y. cast_row dbs_table (drop 1 (shown_advanced sequence y))) k ∙ cast_advanced sequence (number_of x) (name_of x) (security_text x) (pos (sequence_of_database x))) (λ x. refl) (λ x. refl)
       (numbered_databases _ laid) laid.each (one_numbered _ laid.rising n) (tests_number n (Int sequence ∷ []) _ (numbered_databases _ laid)) r h
 
 -- whatever the rows are, the schema stays

@@ -1,5 +1,5 @@
 -- What a DELETE by tests on one table leaves of it.
-use Rattle.tables.proofs.Common.{AllByRecursion, AreKeyed, AreNumbered, Blob, Bool, Changes, Delete, Err, Int, List, Ok, OnOk, Ran, Result, Row, State, Table, Term, [], all_of, col, false, filter, filter_none, holds, is_in, is_of, list_all, not, overlay, refl, rowid, schema, subst, true, ℕ, ℤ, ◌∷◌, ◌≡◌}
+use Rattle.tables.proofs.Common.{AllByRecursion, AreKeyed, AreNumbered, Blob, Bool, Changes, Delete, Err, Int, List, Ok, OnOk, Ran, Result, Row, State, Table, Term, [], all_of, col, false, filter, filter_none, holds, is_row_of_database, is_row_of_document, list_all, not, overlay, refl, rowid, schema, subst, true, ℕ, ℤ, ◌∷◌, ◌≡◌}
 use Rattle.tables.proofs.Cells.{by_db, by_id, tests_db, tests_id}
 use Rattle.tables.proofs.Numbered.{numbered_from_keyed, removes}
 use Rattle.tables.proofs.Queries.{program_on, selects}
@@ -28,9 +28,9 @@ empties at table it old new has command bare numbered r h =
 module _ {X E : Type 0} (at : ℕ) (table : Table) (it : IsPlainTable schema at table) (old new : State) (has : old.now.schema ≡ schema)
     (bare : overlay old.now.trees [] table.tree ≡ old.now.trees table.tree) (keyed : AreKeyed (old.now.trees table.tree)) {text : List ℕ} where
   pub deletes_id : IsCommand schema text (Delete at (program_on table.tree by_id (col 1 0 ∷ []) [])) → (db : ℤ) (id : List ℕ) (r : Result X E) → OnOk r (Ran text (Int db ∷ Blob id ∷ []) old new)
-      → OnOk r (Changes table.tree (filter (λ l. not (is_of db id l)) (old.now.trees table.tree)) old.now new.now)
-  deletes_id command db id = deletes_where at table it old new has command (Int db ∷ Blob id ∷ []) (is_of db id) bare (numbered_from_keyed _ keyed) (tests_id db id [] _ keyed)
+      → OnOk r (Changes table.tree (filter (λ l. not (is_row_of_document db id l)) (old.now.trees table.tree)) old.now new.now)
+  deletes_id command db id = deletes_where at table it old new has command (Int db ∷ Blob id ∷ []) (is_row_of_document db id) bare (numbered_from_keyed _ keyed) (tests_id db id [] _ keyed)
 
   pub clears : IsCommand schema text (Delete at (program_on table.tree by_db (col 1 0 ∷ []) [])) → (db : ℤ) (r : Result X E) → OnOk r (Ran text (Int db ∷ []) old new)
-      → OnOk r (Changes table.tree (filter (λ l. not (is_in db l)) (old.now.trees table.tree)) old.now new.now)
-  clears command db = deletes_where at table it old new has command (Int db ∷ []) (is_in db) bare (numbered_from_keyed _ keyed) (tests_db db _ keyed)
+      → OnOk r (Changes table.tree (filter (λ l. not (is_row_of_database db l)) (old.now.trees table.tree)) old.now new.now)
+  clears command db = deletes_where at table it old new has command (Int db ∷ []) (is_row_of_database db) bare (numbered_from_keyed _ keyed) (tests_db db _ keyed)

@@ -1,5 +1,5 @@
 -- What the statements on documents mean.
-use Rattle.tables.proofs.Common.{AllByRecursion, AreDocumentRows, Binary, Blob, Bool, Changes, Delete, Equal, IfOk, Insert, Int, IsDocumentRow, IsKeyed, IsStore, IsTotalOrder, Key, List, Null, OnOk, Ordering, Ran, Result, Row, Select, Shown, State, Term, Text, Update, Values, [], all_weaker, and_parts, ap, ap₂, arith, as_count, cast_row, codes, col, column, comes_after, cond, db_of, docs_table, docs_tree, document_cells, document_row, drop, eval, everything, false, filter, filter-map, first_rows, flag, holds, id_of, int_cmp, ints, is_gone, is_in, is_of, limited, list_all, listed_document, lit, map, nat_cmp, nat_cmp-IsAntisymmetric, nat_cmp_total, nat_list_cmp_total, nat_tests, negsuc, number_of, on_total, ordering_then, pos, refl, row_with_winner, rows_with_winner, same_int, schema, sequence_of, sort_by, subst, sym, then-Equal, true, understood, value_cmp, value_cmp-Int, winner, winner_text, ℕ, ℤ, ◌&&◌, ◌∙◌, ◌∷◌, ◌≡◌, ◌≢◌}
+use Rattle.tables.proofs.Common.{AllByRecursion, AreDocumentRows, Binary, Blob, Bool, Changes, Delete, Equal, IfOk, Insert, Int, IsDocumentRow, IsKeyed, IsStore, IsTotalOrder, Key, List, Null, OnOk, Ordering, Ran, Result, Row, Select, Shown, State, Term, Text, Update, Values, [], all_weaker, and_parts, ap, ap₂, arith, as_count, cast_row, codes, col, column, comes_after, cond, db_of, docs_table, docs_tree, document_cells, document_row, drop, eval, everything, false, filter, filter-map, first_rows, flag, holds, id_of, int_cmp, ints, is_gone_row, is_row_of_database, is_row_of_document, limited, list_all, listed_document, lit, map, nat_cmp, nat_cmp-IsAntisymmetric, nat_cmp_total, nat_list_cmp_total, nat_tests, negsuc, number_of, on_total, ordering_then, pos, refl, row_with_winner, rows_with_winner, same_int, schema, sequence_of_row, sort_by, subst, sym, then-Equal, true, understood, value_cmp, value_cmp-Int, winner, winner_text, ℕ, ℤ, ◌&&◌, ◌∙◌, ◌∷◌, ◌≡◌, ◌≢◌}
 use Rattle.tables.proofs.Cells.{blobs_agree, by_db, by_id, by_later, cast_null, cast_int, tests_db, tests_id, tests_later}
 use Rattle.tables.proofs.RowMaps.{filter_both, text_exact, untied}
 use Rattle.tables.proofs.Sorted.{lists, sorted_left}
@@ -49,7 +49,7 @@ pub advances_document : {X E : Type 0} (old new : State) → old.now.schema ≡ 
     → OnOk r (Ran advance_text (Int db ∷ Blob id ∷ Int sequence ∷ Text winner ∷ flag deleted ∷ []) old new)
     → OnOk r (Changes docs_tree (rows_with_winner db id sequence winner deleted (old.now.trees docs_tree)) old.now new.now)
 advances_document old new has fit db id sequence winner deleted r h =
-    updates_where schema 2 docs_table docs_plain old new has advance_text by_id advanced advance_is (Int db ∷ Blob id ∷ Int sequence ∷ Text winner ∷ flag deleted ∷ []) (is_of db id)
+    updates_where schema 2 docs_table docs_plain old new has advance_text by_id advanced advance_is (Int db ∷ Blob id ∷ Int sequence ∷ Text winner ∷ flag deleted ∷ []) (is_row_of_document db id)
     (shown_advanced sequence winner deleted) (row_with_winner sequence winner deleted) IsKeyed refl (λ x. refl) (λ x. refl) (keyed_advanced sequence winner deleted) (λ x. refl) (λ x. refl)
     (numbered_from_keyed _ fit.keyed) fit.keyed.keyed (one_of _ fit.ids_apart db id) (tests_id db id (Int sequence ∷ Text winner ∷ flag deleted ∷ []) _ fit.keyed) r h
 
@@ -72,9 +72,9 @@ unfolding understood everything
 document_is = record { is = refl; plain = (refl, refl); unlisted = refl }
 
 pub finds_document : {X E : Type 0} (old new : State) → IsStore old.now → (db : ℤ) (id : List ℕ) (r : Result X E) (items : X → List Row) → IfOk r (λ x. Shown document_text (Int db ∷ Blob id ∷ []) old new (items x))
-    → IfOk r (λ x. items x ≡ map listed_document (filter (is_of db id) (old.now.trees docs_tree)))
+    → IfOk r (λ x. items x ≡ map listed_document (filter (is_row_of_document db id) (old.now.trees docs_tree)))
 finds_document old new is db id =
-    finds_one old new is.schema_is document_is (Int db ∷ Blob id ∷ []) (is_of db id) listed_document refl (λ r. refl) (tests_id db id [] _ (docs_keyed old.now.trees is.laid)) (one_of (old.now.trees docs_tree) is.laid.ids_apart db id)
+    finds_one old new is.schema_is document_is (Int db ∷ Blob id ∷ []) (is_row_of_document db id) listed_document refl (λ r. refl) (tests_id db id [] _ (docs_keyed old.now.trees is.laid)) (one_of (old.now.trees docs_tree) is.laid.ids_apart db id)
 
 abbrev pub ids_text : List ℕ
 ids_text = codes "SELECT id, seq, winner, del FROM docs WHERE db = ?1 ORDER BY id"
@@ -97,17 +97,17 @@ unfolding understood everything
 sequences_are = record { is = refl; plain = (refl, refl); unlisted = refl }
 
 abbrev pub IsOne : Row → Type 0
-IsOne r = r ≡ document_row (number_of r) (db_of r) (id_of r) (pos (sequence_of r)) (winner_text r) (is_gone r)
+IsOne r = r ≡ document_row (number_of r) (db_of r) (id_of r) (pos (sequence_of_row r)) (winner_text r) (is_gone_row r)
 
 ints_as_nats : (m n : ℕ) → int_cmp (pos m) (pos n) ≡ nat_cmp m n
 ints_as_nats m n = grind (arith, ints, nat_tests)
 
 sequences_agree : (a b : Row) → IsOne a → IsOne b → ordering_then (value_cmp (column a 3) (column b 3)) Equal ≡ order.by_sequence a b
 sequences_agree a b k l =
-    then-Equal (value_cmp (column a 3) (column b 3)) ∙ ap₂ value_cmp (ap (λ x. column x 3) k) (ap (λ x. column x 3) l) ∙ value_cmp-Int (pos (sequence_of a)) (pos (sequence_of b))
-    ∙ ints_as_nats (sequence_of a) (sequence_of b)
+    then-Equal (value_cmp (column a 3) (column b 3)) ∙ ap₂ value_cmp (ap (λ x. column x 3) k) (ap (λ x. column x 3) l) ∙ value_cmp-Int (pos (sequence_of_row a)) (pos (sequence_of_row b))
+    ∙ ints_as_nats (sequence_of_row a) (sequence_of_row b)
 
-pub same_db : (db : ℤ) (a b : Row) → is_in db a ≡ true → is_in db b ≡ true → db_of a ≡ db_of b
+pub same_db : (db : ℤ) (a b : Row) → is_row_of_database db a ≡ true → is_row_of_database db b ≡ true → db_of a ≡ db_of b
 same_db db a b p q = same_int (db_of a) db p ∙ sym (same_int (db_of b) db q)
 
 pub ones : (old : State) → IsStore old.now → AllByRecursion IsOne (old.now.trees docs_tree)
@@ -127,11 +127,11 @@ later_are = record { is = refl; plain = (refl, refl); unlisted = refl }
 
 -- rows of a kind among those of a database, in an order
 pub left_in_order : (by : Row → Row → Ordering) → IsTotalOrder by → (db : ℤ) (q : Row → Bool) (rows : List Row)
-    → map listed_document (sort_by by (filter (λ r. is_in db r && q (listed_document r)) rows)) ≡ filter q (map listed_document (sort_by by (filter (is_in db) rows)))
+    → map listed_document (sort_by by (filter (λ r. is_row_of_database db r && q (listed_document r)) rows)) ≡ filter q (map listed_document (sort_by by (filter (is_row_of_database db) rows)))
 left_in_order by total db q rows =
-    ap (λ l. map listed_document (sort_by by l)) (sym (filter_both (λ r. q (listed_document r)) (is_in db) rows))
-    ∙ ap (map listed_document) (sym (sorted_left by total (λ r. q (listed_document r)) (filter (is_in db) rows)))
-    ∙ sym (filter-map q listed_document (sort_by by (filter (is_in db) rows)))
+    ap (λ l. map listed_document (sort_by by l)) (sym (filter_both (λ r. q (listed_document r)) (is_row_of_database db) rows))
+    ∙ ap (map listed_document) (sym (sorted_left by total (λ r. q (listed_document r)) (filter (is_row_of_database db) rows)))
+    ∙ sym (filter-map q listed_document (sort_by by (filter (is_row_of_database db) rows)))
 
 limited_to : (limit : ℤ) (rows : List Row) → limited (as_count (Int limit)) rows ≡ first_rows limit rows
 limited_to (pos n) rows = refl
@@ -139,7 +139,7 @@ limited_to (negsuc n) rows = refl
 
 module _ {X E : Type 0} (old new : State) (is : IsStore old.now) (db : ℤ) (r : Result X E) (items : X → List Row) where
   -- rows of the database, by id and by sequence
-  in_id_order : {text : List ℕ} {tests : List Term} → IsCommand schema text (Select (program_on docs_tree tests listed id_order) headings) → (params : Row) (p : Row → Bool) → ((x : Row) → p x ≡ true → is_in db x ≡ true)
+  in_id_order : {text : List ℕ} {tests : List Term} → IsCommand schema text (Select (program_on docs_tree tests listed id_order) headings) → (params : Row) (p : Row → Bool) → ((x : Row) → p x ≡ true → is_row_of_database db x ≡ true)
       → AllByRecursion (λ x. list_all (holds (params ∷ x ∷ [])) tests ≡ p x) (old.now.trees docs_tree) → IfOk r (λ x. Shown text params old new (items x))
       → IfOk r (λ x. items x ≡ map listed_document (sort_by order.by_id (filter p (old.now.trees docs_tree))))
   in_id_order command params p mine passes =
@@ -148,21 +148,21 @@ module _ {X E : Type 0} (old new : State) (is : IsStore old.now) (db : ℤ) (r :
       (λ a b k l x y apart. untied nat_list_cmp_total text_exact (id_of a) (id_of b) (apart (same_db db a b (mine a x) (mine b y)))) refl (λ x. refl) passes (ones old is) is.laid.ids_apart r items
 
   in_sequence_order : {text : List ℕ} {tests : List Term} {most : Term} → IsCommand schema text (Select (first_program docs_tree tests listed sequence_order most) headings) → (params : Row) (p : Row → Bool)
-      → ((x : Row) → p x ≡ true → is_in db x ≡ true) → AllByRecursion (λ x. list_all (holds (params ∷ x ∷ [])) tests ≡ p x) (old.now.trees docs_tree) → IfOk r (λ x. Shown text params old new (items x))
+      → ((x : Row) → p x ≡ true → is_row_of_database db x ≡ true) → AllByRecursion (λ x. list_all (holds (params ∷ x ∷ [])) tests ≡ p x) (old.now.trees docs_tree) → IfOk r (λ x. Shown text params old new (items x))
       → IfOk r (λ x. items x ≡ limited (as_count (eval most (params ∷ []))) (map listed_document (sort_by order.by_sequence (filter p (old.now.trees docs_tree)))))
   in_sequence_order command params p mine passes =
-      lists old new is.schema_is command params p listed_document IsOne order.by_sequence (λ a b. db_of a ≡ db_of b → sequence_of a ≢ sequence_of b) sequences_agree
-      (λ a b k l x y apart. untied nat_cmp_total nat_cmp-IsAntisymmetric (sequence_of a) (sequence_of b) (apart (same_db db a b (mine a x) (mine b y)))) refl (λ x. refl) passes (ones old is) is.laid.sequences_apart r items
+      lists old new is.schema_is command params p listed_document IsOne order.by_sequence (λ a b. db_of a ≡ db_of b → sequence_of_row a ≢ sequence_of_row b) sequences_agree
+      (λ a b k l x y apart. untied nat_cmp_total nat_cmp-IsAntisymmetric (sequence_of_row a) (sequence_of_row b) (apart (same_db db a b (mine a x) (mine b y)))) refl (λ x. refl) passes (ones old is) is.laid.sequences_apart r items
 
-  pub lists_by_id : IfOk r (λ x. Shown ids_text (Int db ∷ []) old new (items x)) → IfOk r (λ x. items x ≡ map listed_document (sort_by order.by_id (filter (is_in db) (old.now.trees docs_tree))))
-  lists_by_id = in_id_order ids_are (Int db ∷ []) (is_in db) (λ x own. own) (tests_db db _ (docs_keyed old.now.trees is.laid))
+  pub lists_by_id : IfOk r (λ x. Shown ids_text (Int db ∷ []) old new (items x)) → IfOk r (λ x. items x ≡ map listed_document (sort_by order.by_id (filter (is_row_of_database db) (old.now.trees docs_tree))))
+  lists_by_id = in_id_order ids_are (Int db ∷ []) (is_row_of_database db) (λ x own. own) (tests_db db _ (docs_keyed old.now.trees is.laid))
 
-  pub lists_by_sequence : IfOk r (λ x. Shown sequences_text (Int db ∷ []) old new (items x)) → IfOk r (λ x. items x ≡ map listed_document (sort_by order.by_sequence (filter (is_in db) (old.now.trees docs_tree))))
-  lists_by_sequence = in_sequence_order sequences_are (Int db ∷ []) (is_in db) (λ x own. own) (tests_db db _ (docs_keyed old.now.trees is.laid))
+  pub lists_by_sequence : IfOk r (λ x. Shown sequences_text (Int db ∷ []) old new (items x)) → IfOk r (λ x. items x ≡ map listed_document (sort_by order.by_sequence (filter (is_row_of_database db) (old.now.trees docs_tree))))
+  lists_by_sequence = in_sequence_order sequences_are (Int db ∷ []) (is_row_of_database db) (λ x own. own) (tests_db db _ (docs_keyed old.now.trees is.laid))
 
   pub lists_later : (since limit : ℤ) → IfOk r (λ x. Shown later_text (Int db ∷ Int since ∷ Int limit ∷ []) old new (items x))
-      → IfOk r (λ x. items x ≡ first_rows limit (filter (comes_after since) (map listed_document (sort_by order.by_sequence (filter (is_in db) (old.now.trees docs_tree))))))
+      → IfOk r (λ x. items x ≡ first_rows limit (filter (comes_after since) (map listed_document (sort_by order.by_sequence (filter (is_row_of_database db) (old.now.trees docs_tree))))))
   lists_later since limit h =
-      subst (λ l. IfOk r (λ x. items x ≡ l)) (limited_to limit _ ∙ ap (first_rows limit) (left_in_order order.by_sequence (on_total sequence_of nat_cmp_total) db (comes_after since) (old.now.trees docs_tree)))
-      (in_sequence_order later_are (Int db ∷ Int since ∷ Int limit ∷ []) (λ l. is_in db l && comes_after since (listed_document l)) (λ x k. (and_parts (is_in db x) _ k).0)
-      (tests_later db since limit _ (all_weaker IsOne (λ x. (column x 1 ≡ Int (db_of x)) × (column x 3 ≡ Int (pos (sequence_of x)))) (λ x k. (ap (λ y. column y 1) k, ap (λ y. column y 3) k)) _ (ones old is))) h)
+      subst (λ l. IfOk r (λ x. items x ≡ l)) (limited_to limit _ ∙ ap (first_rows limit) (left_in_order order.by_sequence (on_total sequence_of_row nat_cmp_total) db (comes_after since) (old.now.trees docs_tree)))
+      (in_sequence_order later_are (Int db ∷ Int since ∷ Int limit ∷ []) (λ l. is_row_of_database db l && comes_after since (listed_document l)) (λ x k. (and_parts (is_row_of_database db x) _ k).0)
+      (tests_later db since limit _ (all_weaker IsOne (λ x. (column x 1 ≡ Int (db_of x)) × (column x 3 ≡ Int (pos (sequence_of_row x)))) (λ x k. (ap (λ y. column y 1) k, ap (λ y. column y 3) k)) _ (ones old is))) h)

@@ -1,5 +1,5 @@
 -- One write of a document: the tables are laid out after it, and hold the database with the write.
-use Rattle.tables.proofs.Common.{AllByRecursion, AreLawful, Bool, DocumentWrite, Entry, HistoryContent, IsAscending, IsDatabaseNumber, IsDatabaseRow, IsDocumentRow, IsLaid, IsLocalRow, IsRevisionRow, IsStore, IsWritable, IsWrite, List, None, Revision, Row, Some, StandsIn, Trees, all-filter, all_of, all_weaker, and_left, ap, ap₂, arith, ascending-filter, bytes_eq, cases_Bool, contents_in, counts_down, database_at, database_of, database_row, db_of, dbs_tree, docs_tree, document_of, document_row, documents_in, entry_kept, entry_of, false, filter, has_number, held_by, held_of, history_after, history_before, history_in, id_of, inl, inr, inside, int_eq, is_deleted, is_in, is_known, is_named, is_of, is_some, lawful_by_one, lawful_insert, length_of, locals_in, locals_tree, name_of, nat_list_cmp_total, new_entries, not, number_of, option_map, placement, pos, refl, revision_row, revs_tree, right_some, row_at_sequence, same_int, security_of, security_text, sequence_of, slice_get, stands_found, subst, sym, text_of, true, whole_counts, winner, with_one, with_write, write_entries, write_shows, ℕ, ℤ, ∥∥₁_map, ◌+◌, ◌<◌, ◌↔◌, ◌∙◌, ◌≡◌, ◌≢◌}
+use Rattle.tables.proofs.Common.{AllByRecursion, AreLawful, Bool, DocumentWrite, Entry, HistoryContent, IsAscending, IsDatabaseNumber, IsDatabaseRow, IsDocumentRow, IsWellFormed, IsLocalRow, IsRevisionRow, IsStore, IsWritable, IsWrite, List, None, Revision, Row, Some, StandsIn, Trees, all-filter, all_of, all_weaker, and_left, ap, ap₂, arith, ascending-filter, bytes_eq, cases_Bool, contents_in, counts_down, database_row_at, database_of_row, database_row, db_of, dbs_tree, docs_tree, document_of_row, document_row, documents_in_rows, entry_kept, entry_of, false, filter, has_number, held_of_write, held_of, history_after, history_before, history_in_rows, id_of, inl, inr, inside, int_eq, is_deleted, is_row_of_database, is_known, is_named, is_row_of_document, is_some, lawful_by_one, lawful_insert, sequence_of_database, locals_in, locals_tree, name_of, nat_list_cmp_total, new_entries, not, number_of, option_map, placement, pos, refl, revision_row, revs_tree, right_some, row_at_sequence, same_int, security_of, security_text, sequence_of_row, slice_get, stands_found, subst, sym, text_of, true, whole_counts, winner, with_one, with_write, write_entries, write_shows, ℕ, ℤ, ∥∥₁_map, ◌+◌, ◌<◌, ◌↔◌, ◌∙◌, ◌≡◌, ◌≢◌}
 use Rattle.std.specs.FinMap as finite
 use Rattle.tree.proofs.Continued.{added_is}
 use Rattle.sqlite.specs.Effect as sqlite
@@ -26,7 +26,7 @@ module _ (a e : sqlite.Database) (name : List ℕ) (r : Row) (w : DocumentWrite)
   db = number_of r
 
   abbrev sequence : ℕ
-  sequence = length_of r + 1
+  sequence = sequence_of_database r + 1
 
   abbrev advanced : Row → Row
   advanced = row_at_sequence (pos sequence)
@@ -45,44 +45,44 @@ module _ (a e : sqlite.Database) (name : List ℕ) (r : Row) (w : DocumentWrite)
   counts : counts_down w.write.path ≡ true
   counts = whole_counts w.write.path (added_is before w.write.path (ap (λ (k : HistoryContent). placement k w.write.path) (sym (document_found t r w.id is.laid)) ∙ ok.acceptable.placed)).whole
 
-  kept : IsKept (held_by w.write)
+  kept : IsKept (held_of_write w.write)
   kept = record { body = record { object = ok.acceptable.body; shallow = ok.acceptable.shallow }; lawful = ok.storable.body }
 
   entries_are : AllByRecursion (IsPathEntry w.write.path) entries
   entries_are =
       all-filter (IsPathEntry w.write.path) (λ x. not (is_known before x.0)) (write_entries w.write)
-      (path_entries_are w.write.path w.write.path (Some (held_by w.write)) (λ p stands. stands) counts ok.storable.revisions (λ held up. subst IsKept (inside (held_by w.write) held up) kept))
+      (path_entries_are w.write.path w.write.path (Some (held_of_write w.write)) (λ p stands. stands) counts ok.storable.revisions (λ held up. subst IsKept (inside (held_of_write w.write) held up) kept))
 
-  own_history : history_in (u revs_tree) db w.id ≡ history_after t r w
+  own_history : history_in_rows (u revs_tree) db w.id ≡ history_after t r w
   own_history =
       history_own entries (t revs_tree) db w.id (all_weaker (IsPathEntry w.write.path) (λ x. (k : ℤ) → entry_of (revision_row k db w.id x.0 x.1) ≡ x.1) (λ x own k. entry_again w.write.path x k db w.id own) entries entries_are)
       ∙ with_new_entries before (write_entries w.write)
 
-  other_history : (x : Row) → is_of db w.id x ≡ false → history_in (u revs_tree) (db_of x) (id_of x) ≡ history_in (t revs_tree) (db_of x) (id_of x)
+  other_history : (x : Row) → is_row_of_document db w.id x ≡ false → history_in_rows (u revs_tree) (db_of x) (id_of x) ≡ history_in_rows (t revs_tree) (db_of x) (id_of x)
   other_history x out = history_others entries (t revs_tree) db w.id (db_of x) (id_of x) (apart_of db w.id x out)
 
   -- what is known of a row's document stays known
-  known_still : (x : Row) (p : Revision) → is_known (history_in (t revs_tree) (db_of x) (id_of x)) p ≡ true → is_known (history_in (u revs_tree) (db_of x) (id_of x)) p ≡ true
-  known_still x p known = elim (cases_Bool (is_of db w.id x)) [
+  known_still : (x : Row) (p : Revision) → is_known (history_in_rows (t revs_tree) (db_of x) (id_of x)) p ≡ true → is_known (history_in_rows (u revs_tree) (db_of x) (id_of x)) p ≡ true
+  known_still x p known = elim (cases_Bool (is_row_of_document db w.id x)) [
     | inl here ↦
         let own = of_these db w.id x here in
-        let was : is_known before p ≡ true = sym (ap₂ (λ (m : ℤ) (k : List ℕ). is_known (history_in (t revs_tree) m k) p) own.0 own.1) ∙ known in
-        ap₂ (λ (m : ℤ) (k : List ℕ). is_known (history_in (u revs_tree) m k) p) own.0 own.1
+        let was : is_known before p ≡ true = sym (ap₂ (λ (m : ℤ) (k : List ℕ). is_known (history_in_rows (t revs_tree) m k) p) own.0 own.1) ∙ known in
+        ap₂ (λ (m : ℤ) (k : List ℕ). is_known (history_in_rows (u revs_tree) m k) p) own.0 own.1
         ∙ ap (λ (k : HistoryContent). is_known k p) own_history ∙ ap is_some (entry_kept before w.write p was) ∙ was
     | inr out ↦ ap (λ (k : HistoryContent). is_known k p) (other_history x out) ∙ known
   ]
 
-  path_known : (p : Revision) → StandsIn w.write.path p → is_known (history_in (u revs_tree) db w.id) p ≡ true
+  path_known : (p : Revision) → StandsIn w.write.path p → is_known (history_in_rows (u revs_tree) db w.id) p ≡ true
   path_known p stands =
       ap (λ (k : HistoryContent). is_known k p) own_history ∙ ap is_some (write_shows before w.write p)
-      ∙ right_some (finite.get before p) _ (stands_found w.write.path (Some (held_by w.write)) p stands)
+      ∙ right_some (finite.get before p) _ (stands_found w.write.path (Some (held_of_write w.write)) p stands)
 
   -- ---- the rows of documents
 
   number_still : (m : ℤ) → IsDatabaseNumber t m → IsDatabaseNumber u m
   number_still m there = number_stays db advanced (λ x. refl) (λ x. refl) (t dbs_tree) m ∙ there
 
-  old_document : (x : Row) → IsDocumentRow t x → is_of db w.id x ≡ false → IsDocumentRow u x
+  old_document : (x : Row) → IsDocumentRow t x → is_row_of_document db w.id x ≡ false → IsDocumentRow u x
   old_document x k out = record {
     is = k.is;
     there = number_still (db_of x) k.there;
@@ -104,7 +104,7 @@ module _ (a e : sqlite.Database) (name : List ℕ) (r : Row) (w : DocumentWrite)
     named = ok.storable.named;
     text = ok.storable.text;
     positive = omega arith;
-    within = λ d now. let same = ap length_of (own_changed t is.laid name r ok.found advanced (λ x. refl) (λ x. refl) d now) in omega (arith, same);
+    within = λ d now. let same = ap sequence_of_database (own_changed t is.laid name r ok.found advanced (λ x. refl) (λ x. refl) d now) in omega (arith, same);
     won = ap (λ (k : HistoryContent). option_map text_of (winner k)) own_history ∙ ap (option_map text_of) h.best_is;
     gone = λ v up.
         flag_again gone ∙ ap (λ (x : Revision). is_deleted (held_of (history_after t r w) x)) (inside h.best v (sym h.best_is ∙ sym (ap winner own_history) ∙ up))
@@ -113,10 +113,10 @@ module _ (a e : sqlite.Database) (name : List ℕ) (r : Row) (w : DocumentWrite)
 
   documents : AllByRecursion (IsDocumentRow u) (u docs_tree)
   documents =
-      all_placed (t docs_tree) db w.id sequence (text_of h.best) gone (IsDocumentRow u) (all_weaker (IsDocumentRow t) (λ x. is_of db w.id x ≡ false → IsDocumentRow u x) old_document (t docs_tree) is.laid.docs) new_document
+      all_placed (t docs_tree) db w.id sequence (text_of h.best) gone (IsDocumentRow u) (all_weaker (IsDocumentRow t) (λ x. is_row_of_document db w.id x ≡ false → IsDocumentRow u x) old_document (t docs_tree) is.laid.docs) new_document
 
-  below : AllByRecursion (λ x. db_of x ≡ db → sequence_of x < sequence) (t docs_tree)
-  below = all_weaker (IsDocumentRow t) (λ x. db_of x ≡ db → sequence_of x < sequence) (λ x k here. let low = k.within r (ap (database_at (t dbs_tree)) here ∙ at_number t is.laid name r ok.found) in omega (arith, low)) (t docs_tree) is.laid.docs
+  below : AllByRecursion (λ x. db_of x ≡ db → sequence_of_row x < sequence) (t docs_tree)
+  below = all_weaker (IsDocumentRow t) (λ x. db_of x ≡ db → sequence_of_row x < sequence) (λ x k here. let low = k.within r (ap (database_row_at (t dbs_tree)) here ∙ at_number t is.laid name r ok.found) in omega (arith, low)) (t docs_tree) is.laid.docs
 
   -- ---- the rows of revisions
 
@@ -154,7 +154,7 @@ module _ (a e : sqlite.Database) (name : List ℕ) (r : Row) (w : DocumentWrite)
       revisions_stay_apart entries (t revs_tree) db w.id is.laid.revisions_apart
       (all_left (λ (x : Revision × Entry). AllByRecursion (IsOther db w.id x.0) (t revs_tree)) (λ x. is_known before x.0) (write_entries w.write)
       (all_of (λ (x : Revision × Entry). is_known before x.0 ≡ false → AllByRecursion (IsOther db w.id x.0) (t revs_tree)) (λ x out. unknown_apart (t revs_tree) db w.id x.0 out) (write_entries w.write)))
-      (ascending-filter (λ (x y : Revision × Entry). x.0 ≢ y.0) (λ x. not (is_known before x.0)) (write_entries w.write) (entries_apart w.write.path (Some (held_by w.write)) counts))
+      (ascending-filter (λ (x y : Revision × Entry). x.0 ≢ y.0) (λ x. not (is_known before x.0)) (write_entries w.write) (entries_apart w.write.path (Some (held_of_write w.write)) counts))
 
   -- ---- local documents
 
@@ -163,30 +163,30 @@ module _ (a e : sqlite.Database) (name : List ℕ) (r : Row) (w : DocumentWrite)
 
   -- ---- the databases
 
-  same_document : (x : Row) → is_of db w.id x ≡ false → document_of (u revs_tree) x ≡ document_of (t revs_tree) x
-  same_document x out = ap (λ k. record { sequence = sequence_of x; history = k }) (other_history x out)
+  same_document : (x : Row) → is_row_of_document db w.id x ≡ false → document_of_row (u revs_tree) x ≡ document_of_row (t revs_tree) x
+  same_document x out = ap (λ k. record { sequence = sequence_of_row x; history = k }) (other_history x out)
 
-  own_database : database_of u (advanced r) ≡ with_one (database_of t r) w
+  own_database : database_of_row u (advanced r) ≡ with_one (database_of_row t r) w
   own_database =
-      ap (λ d. record (database_of u (advanced r)) { documents = d })
-      (own_values (t docs_tree) db w.id sequence (text_of h.best) gone (document_of (u revs_tree)) (document_of (t revs_tree)) (record { sequence = sequence; history = history_in (u revs_tree) db w.id }) (λ k. refl) same_document
-      ∙ ap (λ (k : HistoryContent). finite.insert (documents_in (t docs_tree) (t revs_tree) db) w.id (record { sequence = sequence; history = k }))
+      ap (λ d. record (database_of_row u (advanced r)) { documents = d })
+      (own_values (t docs_tree) db w.id sequence (text_of h.best) gone (document_of_row (u revs_tree)) (document_of_row (t revs_tree)) (record { sequence = sequence; history = history_in_rows (u revs_tree) db w.id }) (λ k. refl) same_document
+      ∙ ap (λ (k : HistoryContent). finite.insert (documents_in_rows (t docs_tree) (t revs_tree) db) w.id (record { sequence = sequence; history = k }))
       (own_history ∙ ap (λ (k : HistoryContent). with_write k w.write) (sym (document_found t r w.id is.laid))))
 
-  other_database : (x : Row) → has_number db x ≡ false → database_of u x ≡ database_of t x
+  other_database : (x : Row) → has_number db x ≡ false → database_of_row u x ≡ database_of_row t x
   other_database x apart =
-      let mine : List Row = filter (is_in (number_of x)) (t docs_tree) in
-      ap (λ d. record (database_of t x) { documents = d })
-      (ap finite.from_entries (other_values (t docs_tree) db w.id sequence (text_of h.best) gone (document_of (u revs_tree)) (number_of x) apart)
-      ∙ rows_alike nat_list_cmp_total text_exact id_of (λ q y. bytes_eq (id_of y) q) (text_tests id_of) (document_of (u revs_tree)) (document_of (t revs_tree)) mine
-      (all_passing (λ y. document_of (u revs_tree) y ≡ document_of (t revs_tree) y) (is_in (number_of x)) (t docs_tree)
-      (all_of (λ y. is_in (number_of x) y ≡ true → document_of (u revs_tree) y ≡ document_of (t revs_tree) y)
-      (λ y there. same_document y (and_left (is_in db y) (bytes_eq (id_of y) w.id) (ap (λ n. int_eq n db) (same_int (db_of y) (number_of x) there) ∙ apart))) (t docs_tree))))
+      let mine : List Row = filter (is_row_of_database (number_of x)) (t docs_tree) in
+      ap (λ d. record (database_of_row t x) { documents = d })
+      (ap finite.from_entries (other_values (t docs_tree) db w.id sequence (text_of h.best) gone (document_of_row (u revs_tree)) (number_of x) apart)
+      ∙ rows_alike nat_list_cmp_total text_exact id_of (λ q y. bytes_eq (id_of y) q) (text_tests id_of) (document_of_row (u revs_tree)) (document_of_row (t revs_tree)) mine
+      (all_passing (λ y. document_of_row (u revs_tree) y ≡ document_of_row (t revs_tree) y) (is_row_of_database (number_of x)) (t docs_tree)
+      (all_of (λ y. is_row_of_database (number_of x) y ≡ true → document_of_row (u revs_tree) y ≡ document_of_row (t revs_tree) y)
+      (λ y there. same_document y (and_left (is_row_of_database db y) (bytes_eq (id_of y) w.id) (ap (λ n. int_eq n db) (same_int (db_of y) (number_of x) there) ∙ apart))) (t docs_tree))))
 
-  contents : contents_in u ≡ finite.insert (contents_in t) name (with_one (database_of t r) w)
-  contents = contents_changed t is.laid name r ok.found advanced (λ x. refl) (λ x. refl) u (with_one (database_of t r) w) refl own_database other_database
+  contents : contents_in u ≡ finite.insert (contents_in t) name (with_one (database_of_row t r) w)
+  contents = contents_changed t is.laid name r ok.found advanced (λ x. refl) (λ x. refl) u (with_one (database_of_row t r) w) refl own_database other_database
 
-  laid_out : IsLaid u
+  laid_out : IsWellFormed u
   laid_out =
       let l = is.laid in
       record {
@@ -207,8 +207,8 @@ module _ (a e : sqlite.Database) (name : List ℕ) (r : Row) (w : DocumentWrite)
         local_ids_apart = l.local_ids_apart;
         lawful = ∥∥₁_map l.lawful (λ was.
             subst AreLawful (sym contents)
-            (lawful_insert (contents_in t) name (with_one (database_of t r) w) was
-            (lawful_by_one (database_of t r) w (was name (database_of t r) (database_there t l name r ok.found)) ok.acceptable)));
+            (lawful_insert (contents_in t) name (with_one (database_of_row t r) w) was
+            (lawful_by_one (database_of_row t r) w (was name (database_of_row t r) (database_there t l name r ok.found)) ok.acceptable)));
       }
 
   -- ---- the statements
@@ -220,12 +220,12 @@ module _ (a e : sqlite.Database) (name : List ℕ) (r : Row) (w : DocumentWrite)
   one_write-store =
       store_of u e (h.advances.schema ∙ h.places.schema ∙ (revisions_changed entries db w.id a h.inserted h.revisions).schema ∙ is.schema_is) after laid_out
 
-  pub one_write-contents : contents_in e.trees ≡ finite.insert (contents_in t) name (with_one (database_of t r) w)
+  pub one_write-contents : contents_in e.trees ≡ finite.insert (contents_in t) name (with_one (database_of_row t r) w)
   one_write-contents = contents_same u e.trees after ∙ contents
 
   pub one_write-row : slice_get (filter (is_named name) (e.trees dbs_tree)) 0 ≡ Some (advanced r)
   one_write-row = ap (λ rows. slice_get (filter (is_named name) rows) 0) after.dbs ∙ named_changed t is.laid name r ok.found advanced (λ x. refl) (λ x. refl)
 
-  pub one_write-database : database_of e.trees (advanced r) ≡ with_one (database_of t r) w
+  pub one_write-database : database_of_row e.trees (advanced r) ≡ with_one (database_of_row t r) w
   one_write-database =
-      (λ i. record { length = sequence; security = security_of r; locals = locals_in (after.locals i) db; documents = documents_in (after.docs i) (after.revs i) db }) ∙ own_database
+      (λ i. record { length = sequence; security = security_of r; locals = locals_in (after.locals i) db; documents = documents_in_rows (after.docs i) (after.revs i) db }) ∙ own_database

@@ -1,5 +1,5 @@
 -- What a path says of its revisions is read back from the rows that are put in for them.
-use Rattle.tables.proofs.Common.{AllByRecursion, Bool, Entry, IsAscending, IsBody, List, None, Option, Revision, Some, StandsIn, [], all_weaker, ap, ap₂, arith, body_cell, counts_down, entry_of, eqb-true, false, flag, head, if◌then◌else◌, inl, inr, inside, is_held, is_marked, is_revision, is_set, json_in, length, option_map, parent_cell, parent_in, parts, path_entries, refl, revision_row, suc, text_cell, true, ℕ, ℤ, ◌-◌, ◌↔◌, ◌∷◌, ◌≡◌, ◌≢◌, ◌≤◌}
+use Rattle.tables.proofs.Common.{AllByRecursion, Bool, Entry, IsAscending, IsBody, List, None, Option, Revision, Some, StandsIn, [], all_weaker, ap, ap₂, arith, body_cell, counts_down, entry_of, eqb-true, false, flag, head, if◌then◌else◌, inl, inr, inside, is_held, is_held_deleted, is_revision, is_set, json_in_cell, length, option_map, parent_cell, parent_in, parts, path_entries, refl, revision_row, suc, text_cell, true, ℕ, ℤ, ◌-◌, ◌↔◌, ◌∷◌, ◌≡◌, ◌≢◌, ◌≤◌}
 use Rattle.couch_json.specs.Lawful as lawful
 use Rattle.couch_json.specs.Value as json
 use Rattle.tree.specs.declared.entry.Held.{Held}
@@ -74,11 +74,11 @@ pub flag_again : (b : Bool) → is_set (flag b) ≡ b
 flag_again true = refl
 flag_again false = refl
 
-body_again : (held : Held) → IsKept held → json_in (text_cell held.body) ≡ held.body
+body_again : (held : Held) → IsKept held → json_in_cell (text_cell held.body) ≡ held.body
 body_again held kept = spelled held.body kept.lawful (omega (arith, kept.body.shallow))
 
 held_again : (held : Option Held) → ((some : Held) → held ≡ Some some → IsKept some)
-    → option_map (λ (d : Bool × json.Value). record { deleted = d.0; body = d.1 }) (if is_set (flag (is_held held)) then Some (is_set (flag (is_marked held)), json_in (body_cell held)) else None) ≡ held
+    → option_map (λ (d : Bool × json.Value). record { deleted = d.0; body = d.1 }) (if is_set (flag (is_held held)) then Some (is_set (flag (is_held_deleted held)), json_in_cell (body_cell held)) else None) ≡ held
 held_again None kept = refl
 held_again (Some held) kept = ap₂ (λ (b : Bool) (v : json.Value). Some (record { deleted = b; body = v })) (flag_again held.deleted) (body_again held (kept held refl))
 

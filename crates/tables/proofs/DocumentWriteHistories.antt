@@ -1,12 +1,12 @@
 -- The histories that the rows hold once the new revisions of a write are put in.
-use Rattle.tables.proofs.Common.{AllByRecursion, Bool, Entry, HistoryContent, IsAscending, List, Node, None, Option, Revision, Row, Some, [], all-append, all_both, all_kept, all_unmap, all_weaker, ap, append-nil, append_assoc, ascending-append, both_ways, bytes_eq, cond, db_of, entry_of, eq_by_cmp, false, filter, find-append, from_entries, get, get-from_entries, get-with_entries, history_in, id_of, int_eq, is_known, is_of, is_some, map, next_number, none_from_any, not, or, refl, revision_cells, revision_cmp, revision_cmp_exact, revision_cmp_total, revision_of, revision_row, same_map, sym, tied, true, with_cells, with_entries, with_revisions, ℕ, ℤ, ◌&&◌, ◌++◌, ◌∙◌, ◌∷◌, ◌≡◌, ◌≢◌}
+use Rattle.tables.proofs.Common.{AllByRecursion, Bool, Entry, HistoryContent, IsAscending, List, Node, None, Option, Revision, Row, Some, [], all-append, all_both, all_kept, all_unmap, all_weaker, ap, append-nil, append_assoc, ascending-append, both_ways, bytes_eq, cond, db_of, entry_of, eq_by_cmp, false, filter, find-append, from_entries, get, get-from_entries, get-with_entries, history_in_rows, id_of, int_eq, is_known, is_row_of_document, is_some, map, next_number, none_from_any, not, or, refl, revision_cells, revision_cmp, revision_cmp_exact, revision_cmp_total, revision_of_row, revision_row, same_map, sym, tied, true, with_cells, with_entries, with_revisions, ℕ, ℤ, ◌&&◌, ◌++◌, ◌∙◌, ◌∷◌, ◌≡◌, ◌≢◌}
 use Rattle.std.specs.FinMap.{find}
 use Rattle.std.specs.FinMap.Entries.{find-where_key, is_some-find}
 use Rattle.sqlite_keyed.proofs.SliceLemmas.{slice-push_mine, slice-push_other}
 use Rattle.tables.proofs.ReplacedRows.{is_own}
 
 abbrev node : Row → Node
-node r = (revision_of r, entry_of r)
+node r = (revision_of_row r, entry_of r)
 
 -- ---- histories alone
 
@@ -38,12 +38,12 @@ all-with_revisions P (e ∷ es) rows db id new old =
     all-with_revisions P es (with_cells rows (revision_cells db id e.0 e.1)) db id new.1 (all-append P rows _ old (new.0 (next_number rows), tt))
 
 rows_own : (es : List Node) (rows : List Row) (db : ℤ) (id : List ℕ) → AllByRecursion (λ e. (k : ℤ) → entry_of (revision_row k db id e.0 e.1) ≡ e.1) es
-    → map node (filter (is_of db id) (with_revisions rows db id es)) ≡ map node (filter (is_of db id) rows) ++ es
-rows_own [] rows db id again = sym (append-nil (map node (filter (is_of db id) rows)))
+    → map node (filter (is_row_of_document db id) (with_revisions rows db id es)) ≡ map node (filter (is_row_of_document db id) rows) ++ es
+rows_own [] rows db id again = sym (append-nil (map node (filter (is_row_of_document db id) rows)))
 rows_own (e ∷ es) rows db id again =
     let new : Row = revision_row (next_number rows) db id e.0 e.1 in
-    let old : List Node = map node (filter (is_of db id) rows) in
-    let one : map node (filter (is_of db id) (rows ++ new ∷ [])) ≡ old ++ e ∷ [] = slice-push_mine (is_of db id) node rows new (is_own db id new refl refl) ∙ ap (λ (x : Entry). old ++ (e.0, x) ∷ []) (again.0 (next_number rows)) in
+    let old : List Node = map node (filter (is_row_of_document db id) rows) in
+    let one : map node (filter (is_row_of_document db id) (rows ++ new ∷ [])) ≡ old ++ e ∷ [] = slice-push_mine (is_row_of_document db id) node rows new (is_own db id new refl refl) ∙ ap (λ (x : Entry). old ++ (e.0, x) ∷ []) (again.0 (next_number rows)) in
     rows_own es (with_cells rows (revision_cells db id e.0 e.1)) db id again.1 ∙ ap (λ l. l ++ es) one ∙ append_assoc old (e ∷ []) es
 
 rows_others : (q : Row → Bool) (es : List Node) (rows : List Row) (db : ℤ) (id : List ℕ) → ((k : ℤ) (e : Node) → q (revision_row k db id e.0 e.1) ≡ false) → map node (filter q (with_revisions rows db id es)) ≡ map node (filter q rows)
@@ -53,30 +53,30 @@ rows_others q (e ∷ es) rows db id out =
 
 -- the document's history has the entries, and that of each other document is as it was
 pub history_own : (es : List Node) (rows : List Row) (db : ℤ) (id : List ℕ) → AllByRecursion (λ e. (k : ℤ) → entry_of (revision_row k db id e.0 e.1) ≡ e.1) es
-    → history_in (with_revisions rows db id es) db id ≡ with_entries (history_in rows db id) es
-history_own es rows db id again = ap from_entries (rows_own es rows db id again) ∙ entries_more (map node (filter (is_of db id) rows)) es
+    → history_in_rows (with_revisions rows db id es) db id ≡ with_entries (history_in_rows rows db id) es
+history_own es rows db id again = ap from_entries (rows_own es rows db id again) ∙ entries_more (map node (filter (is_row_of_document db id) rows)) es
 
 pub history_others : (es : List Node) (rows : List Row) (db : ℤ) (id : List ℕ) (other : ℤ) (name : List ℕ) → (int_eq db other && bytes_eq id name) ≡ false
-    → history_in (with_revisions rows db id es) other name ≡ history_in rows other name
-history_others es rows db id other name apart = ap from_entries (rows_others (is_of other name) es rows db id (λ k e. apart))
+    → history_in_rows (with_revisions rows db id es) other name ≡ history_in_rows rows other name
+history_others es rows db id other name apart = ap from_entries (rows_others (is_row_of_document other name) es rows db id (λ k e. apart))
 
 -- ---- no revision has two rows
 
 abbrev pub IsOther : ℤ → List ℕ → Revision → Row → Type 0
-IsOther db id q x = db_of x ≡ db → id_of x ≡ id → revision_of x ≢ q
+IsOther db id q x = db_of x ≡ db → id_of x ≡ id → revision_of_row x ≢ q
 
 abbrev pub AreApart : Row → Row → Type 0
-AreApart a b = db_of a ≡ db_of b → id_of a ≡ id_of b → revision_of a ≢ revision_of b
+AreApart a b = db_of a ≡ db_of b → id_of a ≡ id_of b → revision_of_row a ≢ revision_of_row b
 
-pub unknown_apart : (rows : List Row) (db : ℤ) (id : List ℕ) (q : Revision) → is_known (history_in rows db id) q ≡ false → AllByRecursion (IsOther db id q) rows
+pub unknown_apart : (rows : List Row) (db : ℤ) (id : List ℕ) (q : Revision) → is_known (history_in_rows rows db id) q ≡ false → AllByRecursion (IsOther db id q) rows
 unknown_apart rows db id q unknown =
-    let mine : List Row = filter (is_of db id) rows in
+    let mine : List Row = filter (is_row_of_document db id) rows in
     let none = sym (is_some-find revision_cmp q (map node mine)) ∙ ap is_some (sym (get-from_entries revision_cmp_total (map node mine) q)) ∙ unknown in
     let keys = none_from_any (eq_by_cmp revision_cmp q) (map (λ (e : Node). e.0) (map node mine)) none in
     let each = all_unmap (λ (e : Node). eq_by_cmp revision_cmp q e.0 ≡ false) node mine (all_unmap (λ (k : Revision). eq_by_cmp revision_cmp q k ≡ false) (λ (e : Node). e.0) (map node mine) keys) in
-    all_weaker (λ x. is_of db id x ≡ true → eq_by_cmp revision_cmp q (revision_of x) ≡ false) (IsOther db id q)
-    (λ x out here there is. both_ways (eq_by_cmp revision_cmp q (revision_of x)) (out (is_own db id x here there)) (tied q (revision_of x) (sym is)))
-    rows (all_kept (λ x. eq_by_cmp revision_cmp q (revision_of x) ≡ false) (is_of db id) rows each)
+    all_weaker (λ x. is_row_of_document db id x ≡ true → eq_by_cmp revision_cmp q (revision_of_row x) ≡ false) (IsOther db id q)
+    (λ x out here there is. both_ways (eq_by_cmp revision_cmp q (revision_of_row x)) (out (is_own db id x here there)) (tied q (revision_of_row x) (sym is)))
+    rows (all_kept (λ x. eq_by_cmp revision_cmp q (revision_of_row x) ≡ false) (is_row_of_document db id) rows each)
 
 pub revisions_stay_apart : (es : List Node) (rows : List Row) (db : ℤ) (id : List ℕ) → IsAscending AreApart rows → AllByRecursion (λ e. AllByRecursion (IsOther db id e.0) rows) es → IsAscending (λ a b. a.0 ≢ b.0) es
     → IsAscending AreApart (with_revisions rows db id es)

@@ -1,5 +1,5 @@
 -- Revisions that are put in one after another are one change, and what the statements of a write make of all tables.
-use Rattle.tables.proofs.Common.{AllByRecursion, AreInserted, AreKeyed, Changes, Database, DocumentWrite, Entry, IsWrite, List, Revision, Row, Schema, Trees, [], all_both, all_of, ap, dbs_tree, docs_tree, held_of, history_after, history_before, is_deleted, length_of, new_entries, number_of, pos, refl, revision_cells, revs_tree, rows_at_sequence, rows_with_document, schema, subst, sym, text_of, with_cells, with_revisions, ℕ, ℤ, ◌+◌, ◌∙◌, ◌∷◌, ◌≡◌, ◌≢◌}
+use Rattle.tables.proofs.Common.{AllByRecursion, AreInserted, AreKeyed, Changes, Database, DocumentWrite, Entry, IsWrite, List, Revision, Row, Schema, Trees, [], all_both, all_of, ap, dbs_tree, docs_tree, held_of, history_after, history_before, is_deleted, sequence_of_database, new_entries, number_of, pos, refl, revision_cells, revs_tree, rows_at_sequence, rows_with_document, schema, subst, sym, text_of, with_cells, with_revisions, ℕ, ℤ, ◌+◌, ◌∙◌, ◌∷◌, ◌≡◌, ◌≢◌}
 use Rattle.tables.proofs.Kept.{keyed-with_cells}
 use Rattle.tables.proofs.Rests.{AreSame, after_change, unchanged, with_rows}
 
@@ -34,8 +34,8 @@ inserted_fit es db id a c h fit = subst AreKeyed (sym (revisions_changed es db i
 abbrev pub after_write : Trees → Row → DocumentWrite → Revision → Trees
 after_write t r w best =
     let db = number_of r in
-    let documents = rows_with_document db w.id (pos (length_of r + 1)) (text_of best) (is_deleted (held_of (history_after t r w) best)) (t docs_tree) in
-    with_rows (with_rows (with_rows t revs_tree (with_revisions (t revs_tree) db w.id (new_entries (history_before t r w) w.write))) docs_tree documents) dbs_tree (rows_at_sequence db (pos (length_of r + 1)) (t dbs_tree))
+    let documents = rows_with_document db w.id (pos (sequence_of_database r + 1)) (text_of best) (is_deleted (held_of (history_after t r w) best)) (t docs_tree) in
+    with_rows (with_rows (with_rows t revs_tree (with_revisions (t revs_tree) db w.id (new_entries (history_before t r w) w.write))) docs_tree documents) dbs_tree (rows_at_sequence db (pos (sequence_of_database r + 1)) (t dbs_tree))
 
 pub written : (r : Row) (w : DocumentWrite) (a e : Database) → a.schema ≡ schema → (h : IsWrite r w a e) → AreSame (after_write a.trees r w h.best) e.trees
 written r w a e is h =
@@ -43,5 +43,5 @@ written r w a e is h =
     let schema_b = one.schema ∙ is in
     let b = after_change a.trees a h.inserted revs_tree _ _ is (unchanged a.trees) one refl in
     let c = after_change _ h.inserted h.placed docs_tree _ _ schema_b b h.places
-    (ap (rows_with_document (number_of r) w.id (pos (length_of r + 1)) (text_of h.best) (is_deleted (held_of (history_after a.trees r w) h.best))) b.docs) in
-    after_change _ h.placed e dbs_tree _ _ (h.places.schema ∙ schema_b) c h.advances (ap (rows_at_sequence (number_of r) (pos (length_of r + 1))) c.dbs)
+    (ap (rows_with_document (number_of r) w.id (pos (sequence_of_database r + 1)) (text_of h.best) (is_deleted (held_of (history_after a.trees r w) h.best))) b.docs) in
+    after_change _ h.placed e dbs_tree _ _ (h.places.schema ∙ schema_b) c h.advances (ap (rows_at_sequence (number_of r) (pos (sequence_of_database r + 1))) c.dbs)

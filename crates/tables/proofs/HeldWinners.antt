@@ -1,5 +1,5 @@
 -- Something is held of the winner of each document that laid tables hold, with its mark.
-use Rattle.tables.proofs.Common.{Bool, IsLaid, List, None, Option, Row, Some, Trees, [], any_is_found, ap, bytes_eq-Decides, cond, contents_in, database_of, dbs_tree, docs_tree, db_of, false, filter, find, has_number, history_at, history_in, inside, is_named, is_of, is_some, name_of, number_of, option_map, refl, revs_tree, same_int, slice_get, slice_get-filter, subst, sym, true, ℕ, ℤ, ◌||◌, ◌∙◌, ◌∷◌, ◌≡◌}
+use Rattle.tables.proofs.Common.{Bool, IsWellFormed, List, None, Option, Row, Some, Trees, [], any_is_found, ap, bytes_eq-Decides, cond, contents_in, database_of_row, dbs_tree, docs_tree, db_of, false, filter, find, has_number, history_at, history_in_rows, inside, is_named, is_row_of_document, is_some, name_of, number_of, option_map, refl, revs_tree, same_int, slice_get, slice_get-filter, subst, sym, true, ℕ, ℤ, ◌||◌, ◌∙◌, ◌∷◌, ◌≡◌}
 use Rattle.std.proofs.Math.Bool.{Bool-set}
 use Rattle.std.proofs.Math.Logic.{∥∥₁_elim}
 use Rattle.std.specs.FinMap as finite
@@ -29,7 +29,7 @@ passes_in p q (r ∷ rows) d is on = by (λ at. passes_in p q rows d at on) (q r
     by rest true at = ap (λ b. b || list_any p rows) (ap p (inside r d at) ∙ on)
     by rest false at = or_right (p r) (list_any p rows) (rest at)
 
-module _ (trees : Trees) (h : IsLaid trees) where
+module _ (trees : Trees) (h : IsWellFormed trees) where
   -- the row of a database is the first of its name
   own_row : (q : Row → Bool) (d : Row) → find q (trees dbs_tree) ≡ Some d → slice_get (filter (is_named (name_of d)) (trees dbs_tree)) 0 ≡ Some d
   own_row q d is = by (find (is_named (name_of d)) (trees dbs_tree)) refl (sym (any_is_found (is_named (name_of d)) (trees dbs_tree)) ∙ passes_in (is_named (name_of d)) q (trees dbs_tree) d is own)
@@ -46,19 +46,19 @@ module _ (trees : Trees) (h : IsLaid trees) where
 
   module _ (db : ℤ) (id : List ℕ) (m : MarkedRev) where
     abbrev H : HistoryContent
-    H = history_in (trees revs_tree) db id
+    H = history_in_rows (trees revs_tree) db id
 
     in_database : (d : Row) (q : Row → Bool) → find q (trees dbs_tree) ≡ Some d → number_of d ≡ db → marked_winner H ≡ Some m → AreLawful (contents_in trees) → is_some (held_of H m.rev) ≡ true
     in_database d q is numbered won lawful =
-        let same : history_at (database_of trees d) id ≡ H = document_found trees d id h ∙ ap (λ n. history_in (trees revs_tree) n id) numbered in
-        let held = lawful_held (database_of trees d) id m (lawful (name_of d) (database_of trees d) (database_there trees h (name_of d) d (own_row q d is))) (ap marked_winner same ∙ won) in
+        let same : history_at (database_of_row trees d) id ≡ H = document_found trees d id h ∙ ap (λ n. history_in_rows (trees revs_tree) n id) numbered in
+        let held = lawful_held (database_of_row trees d) id m (lawful (name_of d) (database_of_row trees d) (database_there trees h (name_of d) d (own_row q d is))) (ap marked_winner same ∙ won) in
         ap (λ (k : HistoryContent). is_some (held_of k m.rev)) (sym same) ∙ ap is_some held.1
 
-    of_document : (r : Row) → find (is_of db id) (trees docs_tree) ≡ Some r → marked_winner H ≡ Some m → AreLawful (contents_in trees) → is_some (held_of H m.rev) ≡ true
+    of_document : (r : Row) → find (is_row_of_document db id) (trees docs_tree) ≡ Some r → marked_winner H ≡ Some m → AreLawful (contents_in trees) → is_some (held_of H m.rev) ≡ true
     of_document r is won lawful = by (find (has_number (db_of r)) (trees dbs_tree)) refl (sym (any_is_found (has_number (db_of r)) (trees dbs_tree)) ∙ row.0.there)
       where
-        row : IsDocumentRow trees r × (is_of db id r ≡ true)
-        row = find_found (IsDocumentRow trees) (is_of db id) (trees docs_tree) r h.docs is
+        row : IsDocumentRow trees r × (is_row_of_document db id r ≡ true)
+        row = find_found (IsDocumentRow trees) (is_row_of_document db id) (trees docs_tree) r h.docs is
 
         by : (o : Option Row) → find (has_number (db_of r)) (trees dbs_tree) ≡ o → is_some o ≡ true → is_some (held_of H m.rev) ≡ true
         by None at some = absurd (cc)
@@ -66,9 +66,9 @@ module _ (trees : Trees) (h : IsLaid trees) where
             in_database d (has_number (db_of r)) at (same_int (number_of d) (db_of r) (find_passes (has_number (db_of r)) (trees dbs_tree) d at) ∙ (of_these db id r row.1).0) won lawful
 
     some_held : marked_winner H ≡ Some m → AreLawful (contents_in trees) → is_some (held_of H m.rev) ≡ true
-    some_held won lawful = by (find (is_of db id) (trees docs_tree)) refl
+    some_held won lawful = by (find (is_row_of_document db id) (trees docs_tree)) refl
       where
-        by : (o : Option Row) → find (is_of db id) (trees docs_tree) ≡ o → is_some (held_of H m.rev) ≡ true
+        by : (o : Option Row) → find (is_row_of_document db id) (trees docs_tree) ≡ o → is_some (held_of H m.rev) ≡ true
         by None at = absurd (let none : Some m ≡ None = sym won ∙ ap marked_winner (unwritten trees db id h at) ∙ ap (option_map (marked_revision finite.empty)) no_winner in cc)
         by (Some r) at = of_document r at won lawful
 

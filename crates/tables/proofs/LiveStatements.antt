@@ -1,5 +1,5 @@
 -- What the statements on documents whose ids lie between two bounds mean.
-use Rattle.tables.proofs.Common.{AllByRecursion, Binary, Blob, Bool, Equal, IfOk, Int, IsStore, Key, List, Result, Row, Select, Shown, State, Term, [], all_weaker, and_parts, ap, codes, col, column, cond, db_of, docs_tree, everything, false, flag, holds, id_of, is_eq, is_gone, is_in, list_all, listed_document, pos, refl, schema, subst, sym, true, understood, ℕ, ℤ, ◌∙◌, ◌∷◌, ◌≡◌, ◌≢◌, nat_list_cmp_total, ordering_then, value_cmp}
+use Rattle.tables.proofs.Common.{AllByRecursion, Binary, Blob, Bool, Equal, IfOk, Int, IsStore, Key, List, Result, Row, Select, Shown, State, Term, [], all_weaker, and_parts, ap, codes, col, column, cond, db_of, docs_tree, everything, false, flag, holds, id_of, is_eq, is_gone_row, is_row_of_database, list_all, listed_document, pos, refl, schema, subst, sym, true, understood, ℕ, ℤ, ◌∙◌, ◌∷◌, ◌≡◌, ◌≢◌, nat_list_cmp_total, ordering_then, value_cmp}
 use Rattle.sqlite_sql.specs.declared.ops.CompareOp.TheVariants.{Eq, Ge, Lt}
 use Rattle.sqlite_typed.proofs.TestLemmas.{int_test, last_term, then_term}
 use Rattle.tables.proofs.Cells.{blob_by, blobs_agree, compares, int_by}
@@ -27,7 +27,7 @@ tests_bounds : (db : ℤ) (deleted : Bool) (low high : List ℕ) (rest : Row) (r
 tests_bounds db deleted low high rest rows all =
     all_weaker IsOne (λ r. list_all (holds ((Int db ∷ flag deleted ∷ Blob low ∷ Blob high ∷ rest) ∷ r ∷ [])) by_bounds ≡ is_marked_between db deleted low high r)
     (λ r k. then_term (int_by Eq (column r 1) (db_of r) db (ap (λ x. column x 1) k))
-    (then_term (int_by Eq (column r 5) (mark (is_gone r)) (mark deleted) (ap (λ x. column x 5) k) ∙ same_mark (is_gone r) deleted)
+    (then_term (int_by Eq (column r 5) (mark (is_gone_row r)) (mark deleted) (ap (λ x. column x 5) k) ∙ same_mark (is_gone_row r) deleted)
     (then_term (blob_by Ge (column r 2) (id_of r) low (ap (λ x. column x 2) k)) (last_term (blob_by Lt (column r 2) (id_of r) high (ap (λ x. column x 2) k)))))) rows all
 
 -- ---- the statements
@@ -62,8 +62,8 @@ ids_agree a b k l = blobs_agree (column a 2) (column b 2) (id_of a) (id_of b) (a
 -- two documents of a database don't tie
 ids_untied : (db : ℤ) (low high : List ℕ) (a b : Row) → is_marked_between db false low high a ≡ true → is_marked_between db false low high b ≡ true → (db_of a ≡ db_of b → id_of a ≢ id_of b) → is_eq (by_id_in false a b) ≡ false
 ids_untied db low high a b x y apart =
-    let p = and_parts (is_in db a) _ x in
-    let q = and_parts (is_in db b) _ y in
+    let p = and_parts (is_row_of_database db a) _ x in
+    let q = and_parts (is_row_of_database db b) _ y in
     untied nat_list_cmp_total text_exact (id_of a) (id_of b) (apart (same_db db a b p.0 q.0))
 
 abbrev given : ℤ → List ℕ → List ℕ → ℤ → ℤ → Row

@@ -1,5 +1,5 @@
 -- What the statements on local documents mean.
-use Rattle.tables.proofs.Common.{Blob, Delete, IfOk, Insert, Int, IsStore, List, Null, Result, Row, Select, Shown, State, Text, Values, [], cast_row, codes, col, everything, filter, is_of, lit, local_cells, locals_table, locals_tree, map, pos, refl, schema, shown_local, understood, ℕ, ℤ, ◌∷◌, ◌≡◌}
+use Rattle.tables.proofs.Common.{Blob, Delete, IfOk, Insert, Int, IsStore, List, Null, Result, Row, Select, Shown, State, Text, Values, [], cast_row, codes, col, everything, filter, is_row_of_document, lit, local_cells, locals_table, locals_tree, map, pos, refl, schema, shown_local, understood, ℕ, ℤ, ◌∷◌, ◌≡◌}
 use Rattle.tables.proofs.Cells.{by_db, by_id, cast_null, cast_int, tests_id}
 use Rattle.tables.proofs.Queries.{program_on}
 use Rattle.tables.proofs.Writes.{IsCommand}
@@ -29,6 +29,6 @@ unfolding understood everything
 local_is = record { is = refl; plain = (refl, refl); unlisted = refl }
 
 pub finds_local : {X E : Type 0} (old new : State) → IsStore old.now → (db : ℤ) (id : List ℕ) (r : Result X E) (items : X → List Row) → IfOk r (λ x. Shown local_text (Int db ∷ Blob id ∷ []) old new (items x))
-    → IfOk r (λ x. items x ≡ map shown_local (filter (is_of db id) (old.now.trees locals_tree)))
+    → IfOk r (λ x. items x ≡ map shown_local (filter (is_row_of_document db id) (old.now.trees locals_tree)))
 finds_local old new is db id =
-    finds_one old new is.schema_is local_is (Int db ∷ Blob id ∷ []) (is_of db id) shown_local refl (λ r. refl) (tests_id db id [] _ (locals_keyed old.now.trees is.laid)) (one_of (old.now.trees locals_tree) is.laid.local_ids_apart db id)
+    finds_one old new is.schema_is local_is (Int db ∷ Blob id ∷ []) (is_row_of_document db id) shown_local refl (λ r. refl) (tests_id db id [] _ (locals_keyed old.now.trees is.laid)) (one_of (old.now.trees locals_tree) is.laid.local_ids_apart db id)

@@ -1,5 +1,5 @@
 -- What the statements on the version mean.
-use Rattle.tables.proofs.Common.{Delete, IfOk, Insert, Int, IsPermutation, List, Null, Result, Row, Select, Shown, State, Values, [], all_of, ap, arith, cast_row, codes, col, count, everything, filter_all, length_permutation, lit, map, meta_table, meta_tree, one_permutation, pos, refl, same, schema, shown_version, subst, true, understood, version_in, version_shown, ℕ, ◌∷◌, ◌≡◌}
+use Rattle.tables.proofs.Common.{Delete, IfOk, Insert, Int, IsPermutation, List, Null, Result, Row, Select, Shown, State, Values, [], all_of, ap, arith, cast_row, codes, col, count_cell, everything, filter_all, length_permutation, lit, map, meta_table, meta_tree, one_permutation, pos, refl, same, schema, shown_version, subst, true, understood, version_in, version_shown, ℕ, ◌∷◌, ◌≡◌}
 use Rattle.tables.proofs.Cells.{cast_null, cast_int}
 use Rattle.tables.proofs.Finds.{finds_where}
 use Rattle.tables.proofs.Queries.{program_on}
@@ -14,7 +14,7 @@ pub clears_version : IsCommand schema (codes "DELETE FROM meta") (Delete 0 (prog
 unfolding understood everything
 clears_version = record { is = refl; plain = (refl, refl); unlisted = refl }
 
-pub cast_version : cast_row meta_table (Null ∷ count 2 ∷ []) ≡ Null ∷ count 2 ∷ []
+pub cast_version : cast_row meta_table (Null ∷ count_cell 2 ∷ []) ≡ Null ∷ count_cell 2 ∷ []
 cast_version = λ i. cast_null i ∷ cast_int (pos 2) i ∷ []
 
 pub version_is : IsCommand schema version_text (Select (program_on meta_tree [] (col 1 1 ∷ []) []) (codes "version" ∷ []))

@@ -1,12 +1,12 @@
 -- Rows whose numbers rise, and what puts one in or takes some out.
-use Rattle.tables.proofs.Common.{AllByRecursion, AreKeyed, AreNumbered, Bool, Int, IsPermutation, IsPermutation-map, List, Row, Value, [], all-filter, all_of, all_weaker, ap, ap₂, arith, filter, filter_all, filter_same, fold, has_rowid, id_in, ids_of, int_cmp, int_eq, is_eq, list_any, list_any-IsPermutation, map, map-map, map_same, match_ordering, nat_tests, next_rowid, not, number_of, pos, put_row, refl, rowid, same, sym, true, value_cmp, value_cmp-Int, whole_in, without_all, without_key, without_rowid, ℤ, ◌&&◌, ◌++◌, ◌+ℤ◌, ◌||◌, ◌∙◌, ◌∷◌, ◌≡◌}
+use Rattle.tables.proofs.Common.{AllByRecursion, AreKeyed, AreNumbered, Bool, Int, IsPermutation, IsPermutation-map, List, Row, Value, [], all-filter, all_of, all_weaker, ap, ap₂, arith, filter, filter_all, filter_same, fold, has_rowid, id_in, ids_of, int_cmp, int_eq, is_eq, list_any, list_any-IsPermutation, map, map-map, map_same, match_ordering, nat_tests, next_rowid, not, number_of, pos, put_row, refl, rowid, same, sym, true, value_cmp, value_cmp-Int, whole_in_cell, without_all, without_key, without_rowid, ℤ, ◌&&◌, ◌++◌, ◌+ℤ◌, ◌||◌, ◌∙◌, ◌∷◌, ◌≡◌}
 use Rattle.sqlite_keyed.specs.Keyed.{insert_by, next_key}
 use Rattle.sqlite_keyed.proofs.SliceLemmas.{insert_next}
 use Rattle.sqlite_keyed.proofs.WriteLemmas.{removes_delete}
 use Rattle.sqlite_trees.proofs.ListLemmas.{filter_same as filter_on}
 use Rattle.tables.proofs.RowMaps.{filter_both}
 
-pub same_whole : (v : Value) → id_in v ≡ whole_in v
+pub same_whole : (v : Value) → id_in v ≡ whole_in_cell v
 same_whole (Int n) = refl
 same_whole v = refl
 

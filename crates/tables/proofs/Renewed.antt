@@ -1,5 +1,5 @@
 -- What the statements on a file of the first version make of it.
-use Rattle.tables.proofs.Common.{AreNumbered, Changes, Database, Delete, Err, IsFirstStore, IsRenewed, List, Ok, OnOk, Result, Row, [], ap, arith, codes, col, count, decls_tree, entries_tree, everything, meta_tree, refl, schema, subst, sym, understood, version_row, with_cells, ◌∙◌, ◌∷◌, ◌≡◌}
+use Rattle.tables.proofs.Common.{AreNumbered, Changes, Database, Delete, Err, IsFirstStore, IsRenewed, List, Ok, OnOk, Result, Row, [], ap, arith, codes, col, count_cell, decls_tree, entries_tree, everything, meta_tree, refl, schema, subst, sym, understood, version_row, with_cells, ◌∙◌, ◌∷◌, ◌≡◌}
 use Rattle.tables.proofs.Queries.{program_on}
 use Rattle.tables.proofs.Rests.{HoldSame, laid_over, leaves, rows_hold}
 use Rattle.tables.proofs.Writes.{IsCommand}
@@ -13,7 +13,7 @@ unfolding understood everything
 clears_entries = record { is = refl; plain = (refl, refl); unlisted = refl }
 
 -- the version is taken out and another put in, and then the rows of indexes are taken out
-renewed_after : (a b c d e : Database) → IsFirstStore a → Changes meta_tree [] a b → Changes meta_tree (with_cells (b.trees meta_tree) (count 2 ∷ [])) b c → Changes decls_tree [] c d → Changes entries_tree [] d e → IsRenewed a e
+renewed_after : (a b c d e : Database) → IsFirstStore a → Changes meta_tree [] a b → Changes meta_tree (with_cells (b.trees meta_tree) (count_cell 2 ∷ [])) b c → Changes decls_tree [] c d → Changes entries_tree [] d e → IsRenewed a e
 renewed_after a b c d e was first second third fourth =
     let b-is = first.schema ∙ was.schema_is in
     let c-is = second.schema ∙ b-is in
@@ -28,7 +28,7 @@ renewed_after a b c d e was first second third fourth =
       revs = four.revs (omega arith) ∙ three.revs (omega arith) ∙ two.revs (omega arith) ∙ one.revs (omega arith);
       locals = four.locals (omega arith) ∙ three.locals (omega arith) ∙ two.locals (omega arith) ∙ one.locals (omega arith);
     } in
-    let version = four.meta (omega arith) ∙ three.meta (omega arith) ∙ second.rows ∙ ap (λ l. with_cells l (count 2 ∷ [])) first.rows in
+    let version = four.meta (omega arith) ∙ three.meta (omega arith) ∙ second.rows ∙ ap (λ l. with_cells l (count_cell 2 ∷ [])) first.rows in
     record {
       store = record { schema_is = fourth.schema ∙ d-is; laid = laid_over a.trees e.trees same 1 2 version was.laid };
       decls = four.decls (omega arith) ∙ third.rows;
@@ -44,7 +44,7 @@ none_numbered rows is = subst AreNumbered (sym is) (record { numbers = tt; risin
 
 -- the same of four statements, each of which changes its table where that is fit for it
 pub renewed_if : {X E : Type 0} (a b c d e : Database) → IsFirstStore a → (a.schema ≡ schema → AreNumbered (a.trees meta_tree) → Changes meta_tree [] a b)
-    → (b.schema ≡ schema → AreNumbered (b.trees meta_tree) → Changes meta_tree (with_cells (b.trees meta_tree) (count 2 ∷ [])) b c) → (c.schema ≡ schema → AreNumbered (c.trees decls_tree) → Changes decls_tree [] c d)
+    → (b.schema ≡ schema → AreNumbered (b.trees meta_tree) → Changes meta_tree (with_cells (b.trees meta_tree) (count_cell 2 ∷ [])) b c) → (c.schema ≡ schema → AreNumbered (c.trees decls_tree) → Changes decls_tree [] c d)
     → (r : Result X E) → (d.schema ≡ schema → AreNumbered (d.trees entries_tree) → OnOk r (Changes entries_tree [] d e)) → OnOk r (IsRenewed a e)
 renewed_if a b c d e was first second third (Err fault) fourth = tt
 renewed_if a b c d e was first second third (Ok x) fourth =

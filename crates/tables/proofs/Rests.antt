@@ -1,5 +1,5 @@
 -- What a change leaves of other tables and of rows that it doesn't touch, and tables that say the same.
-use Rattle.tables.proofs.Common.{[], AllByRecursion, AreLawful, AreNumbered, Changes, Contents, HistoryContent, IsAscending, IsDatabaseNumber, IsDatabaseRow, IsDocumentRow, IsLaid, IsLaidAt, IsLawful, IsLocalRow, IsRevisionRow, IsStore, List, None, Option, Revision, Row, Schema, Some, Trees, all_weaker, any_is_found, ap, arith, cond, contents_in, database_at, db_of, dbs_tree, decls_tree, docs_tree, documents_in, entries_tree, eqb, eqb_tells, from_entries, held_of, history_in, id_of, inl, inr, is_deleted, is_gone, is_known, is_of, is_some, json_in, length_of, list_any, locals_in, locals_tree, map, meta_tree, name_of, number_of, option_map, refl, revs_tree, same, schema, security_of, sequence_of, subst, sym, text_cell, text_of, true, value_or_null, version_row, winner, winner_text, ℕ, ℤ, ◌∙◌, ◌∷◌, ◌≡◌, ◌≢◌, ◌≤◌}
+use Rattle.tables.proofs.Common.{[], AllByRecursion, AreLawful, AreNumbered, Changes, Contents, HistoryContent, IsAscending, IsDatabaseNumber, IsDatabaseRow, IsDocumentRow, IsWellFormed, IsLaidAt, IsLawful, IsLocalRow, IsRevisionRow, IsStore, List, None, Option, Revision, Row, Schema, Some, Trees, all_weaker, any_is_found, ap, arith, cond, contents_in, database_row_at, db_of, dbs_tree, decls_tree, docs_tree, documents_in_rows, entries_tree, eqb, eqb_tells, from_entries, held_of, history_in_rows, id_of, inl, inr, is_deleted, is_gone_row, is_known, is_row_of_document, is_some, json_in_cell, sequence_of_database, list_any, locals_in, locals_tree, map, meta_tree, name_of, number_of, option_map, refl, revs_tree, same, schema, security_of, sequence_of_row, subst, sym, text_cell, text_of, true, read_or_null, version_row, winner, winner_text, ℕ, ℤ, ◌∙◌, ◌∷◌, ◌≡◌, ◌≢◌, ◌≤◌}
 use Rattle.std.specs.Ordering.{int_eq}
 use Rattle.couch_json.specs.Nesting.{max_open}
 use Rattle.couch_json.specs.Value as json
@@ -27,36 +27,36 @@ leaves tree rows old new is c =
 
 -- the length of the database of a number
 abbrev pub length_at : List Row → ℤ → Option ℕ
-length_at rows n = option_map length_of (database_at rows n)
+length_at rows n = option_map sequence_of_database (database_row_at rows n)
 
 number_kept : (rows now : List Row) (n : ℤ) → length_at now n ≡ length_at rows n → list_any (λ r. int_eq (number_of r) n) rows ≡ true
     → list_any (λ r. int_eq (number_of r) n) now ≡ true
 number_kept rows now n same there =
-    any_is_found _ now ∙ sym (is_some-map length_of (database_at now n)) ∙ ap is_some same ∙ is_some-map length_of (database_at rows n) ∙ sym (any_is_found _ rows) ∙ there
+    any_is_found _ now ∙ sym (is_some-map sequence_of_database (database_row_at now n)) ∙ ap is_some same ∙ is_some-map sequence_of_database (database_row_at rows n) ∙ sym (any_is_found _ rows) ∙ there
 
-within_kept : (o p : Option Row) (d : Row) (n : ℕ) → option_map length_of p ≡ option_map length_of o → ((e : Row) → o ≡ Some e → n ≤ length_of e) → p ≡ Some d → n ≤ length_of d
-within_kept None p d n same within is = absurd (let none = sym same ∙ ap (option_map length_of) is in cc)
+within_kept : (o p : Option Row) (d : Row) (n : ℕ) → option_map sequence_of_database p ≡ option_map sequence_of_database o → ((e : Row) → o ≡ Some e → n ≤ sequence_of_database e) → p ≡ Some d → n ≤ sequence_of_database d
+within_kept None p d n same within is = absurd (let none = sym same ∙ ap (option_map sequence_of_database) is in cc)
 within_kept (Some e) p d n same within is =
-    let both : ◌≡◌ {A = Option ℕ} (Some (length_of e)) (Some (length_of d)) = sym same ∙ ap (option_map length_of) is in
-    let one : length_of e ≡ length_of d = cc in
+    let both : ◌≡◌ {A = Option ℕ} (Some (sequence_of_database e)) (Some (sequence_of_database d)) = sym same ∙ ap (option_map sequence_of_database) is in
+    let one : sequence_of_database e ≡ sequence_of_database d = cc in
     omega (arith, within e refl, one)
 
 module _ (old new : Trees) where
   pub document_kept : (r : Row) → length_at (new dbs_tree) (db_of r) ≡ length_at (old dbs_tree) (db_of r)
-      → history_in (new revs_tree) (db_of r) (id_of r) ≡ history_in (old revs_tree) (db_of r) (id_of r) → IsDocumentRow old r → IsDocumentRow new r
+      → history_in_rows (new revs_tree) (db_of r) (id_of r) ≡ history_in_rows (old revs_tree) (db_of r) (id_of r) → IsDocumentRow old r → IsDocumentRow new r
   document_kept r same history k = record {
     is = k.is;
     there = number_kept (old dbs_tree) (new dbs_tree) (db_of r) same k.there;
     named = k.named;
     text = k.text;
     positive = k.positive;
-    within = λ d. within_kept (database_at (old dbs_tree) (db_of r)) (database_at (new dbs_tree) (db_of r)) d (sequence_of r) same k.within;
+    within = λ d. within_kept (database_row_at (old dbs_tree) (db_of r)) (database_row_at (new dbs_tree) (db_of r)) d (sequence_of_row r) same k.within;
     won = subst (λ (h : HistoryContent). option_map text_of (winner h) ≡ Some (winner_text r)) (sym history) k.won;
-    gone = subst (λ (h : HistoryContent). (w : Revision) → winner h ≡ Some w → is_gone r ≡ is_deleted (held_of h w)) (sym history) k.gone;
+    gone = subst (λ (h : HistoryContent). (w : Revision) → winner h ≡ Some w → is_gone_row r ≡ is_deleted (held_of h w)) (sym history) k.gone;
   }
 
-  pub revision_kept : (r : Row) → list_any (is_of (db_of r) (id_of r)) (new docs_tree) ≡ list_any (is_of (db_of r) (id_of r)) (old docs_tree)
-      → history_in (new revs_tree) (db_of r) (id_of r) ≡ history_in (old revs_tree) (db_of r) (id_of r) → IsRevisionRow old r → IsRevisionRow new r
+  pub revision_kept : (r : Row) → list_any (is_row_of_document (db_of r) (id_of r)) (new docs_tree) ≡ list_any (is_row_of_document (db_of r) (id_of r)) (old docs_tree)
+      → history_in_rows (new revs_tree) (db_of r) (id_of r) ≡ history_in_rows (old revs_tree) (db_of r) (id_of r) → IsRevisionRow old r → IsRevisionRow new r
   revision_kept r same history k = record {
     is = k.is;
     there = same ∙ k.there;
@@ -117,7 +117,7 @@ after_change a b c tree rows now is same h rows_are =
 -- the databases that rows of these tables hold
 abbrev pub contents_of : List Row → List Row → List Row → List Row → Contents
 contents_of dbs docs revs locals =
-    from_entries (map (λ r. (name_of r, record { length = length_of r; security = security_of r; locals = locals_in locals (number_of r); documents = documents_in docs revs (number_of r) })) dbs)
+    from_entries (map (λ r. (name_of r, record { length = sequence_of_database r; security = security_of r; locals = locals_in locals (number_of r); documents = documents_in_rows docs revs (number_of r) })) dbs)
 
 module _ (a b : Trees) (same : HoldSame a b) where
   pub rows_hold : contents_in b ≡ contents_in a
@@ -127,7 +127,7 @@ module _ (a b : Trees) (same : HoldSame a b) where
   pub laid_over : (m n : ℕ) → b meta_tree ≡ version_row n ∷ [] → IsLaidAt m a → IsLaidAt n b
   laid_over m n version h =
       let lengths : (n : ℤ) → length_at (b dbs_tree) n ≡ length_at (a dbs_tree) n = λ n. ap (λ l. length_at l n) same.dbs in
-      let histories : (n : ℤ) (id : List ℕ) → history_in (b revs_tree) n id ≡ history_in (a revs_tree) n id = λ n id. ap (λ l. history_in l n id) same.revs in
+      let histories : (n : ℤ) (id : List ℕ) → history_in_rows (b revs_tree) n id ≡ history_in_rows (a revs_tree) n id = λ n id. ap (λ l. history_in_rows l n id) same.revs in
       record {
         version = version;
         dbs_numbered = subst AreNumbered (sym same.dbs) h.dbs_numbered;
@@ -141,7 +141,7 @@ module _ (a b : Trees) (same : HoldSame a b) where
         ids_apart = subst (IsAscending _) (sym same.docs) h.ids_apart;
         sequences_apart = subst (IsAscending _) (sym same.docs) h.sequences_apart;
         revs = subst (AllByRecursion (IsRevisionRow b)) (sym same.revs)
-            (all_weaker (IsRevisionRow a) (IsRevisionRow b) (λ r. revision_kept a b r (ap (list_any (is_of (db_of r) (id_of r))) same.docs) (histories (db_of r) (id_of r))) (a revs_tree) h.revs);
+            (all_weaker (IsRevisionRow a) (IsRevisionRow b) (λ r. revision_kept a b r (ap (list_any (is_row_of_document (db_of r) (id_of r))) same.docs) (histories (db_of r) (id_of r))) (a revs_tree) h.revs);
         revisions_apart = subst (IsAscending _) (sym same.revs) h.revisions_apart;
         locals = subst (AllByRecursion (IsLocalRow b)) (sym same.locals)
             (all_weaker (IsLocalRow a) (IsLocalRow b) (λ r. local_kept a b r (lengths (db_of r))) (a locals_tree) h.locals);
@@ -153,16 +153,16 @@ module _ (a b : Trees) (same : AreSame a b) where
   pub contents_same : contents_in b ≡ contents_in a
   contents_same = rows_hold a b (hold_same a b same)
 
-  pub laid_same : IsLaid a → IsLaid b
+  pub laid_same : IsWellFormed a → IsWellFormed b
   laid_same h = laid_over a b (hold_same a b same) 2 2 (same.meta ∙ h.version) h
 
 -- so they are those of a store
-pub store_of : (a : Trees) (new : sqlite.Database) → new.schema ≡ schema → AreSame a new.trees → IsLaid a → IsStore new
+pub store_of : (a : Trees) (new : sqlite.Database) → new.schema ≡ schema → AreSame a new.trees → IsWellFormed a → IsStore new
 store_of a new is same h = record { schema_is = is; laid = laid_same a new.trees same h }
 
 -- where the rows of databases alone are others, the tables are laid out if these rows are
-pub dbs_laid : (trees : Trees) (rows : List Row) → IsLaid trees → AreNumbered rows → AllByRecursion IsDatabaseRow rows → IsAscending (λ a b. name_of a ≢ name_of b) rows
-    → ((n : ℤ) → IsDatabaseNumber trees n → length_at rows n ≡ length_at (trees dbs_tree) n) → ∥ AreLawful (contents_in (with_rows trees dbs_tree rows)) ∥₁ → IsLaid (with_rows trees dbs_tree rows)
+pub dbs_laid : (trees : Trees) (rows : List Row) → IsWellFormed trees → AreNumbered rows → AllByRecursion IsDatabaseRow rows → IsAscending (λ a b. name_of a ≢ name_of b) rows
+    → ((n : ℤ) → IsDatabaseNumber trees n → length_at rows n ≡ length_at (trees dbs_tree) n) → ∥ AreLawful (contents_in (with_rows trees dbs_tree rows)) ∥₁ → IsWellFormed (with_rows trees dbs_tree rows)
 dbs_laid trees rows h numbered each apart lengths lawful =
     let new = with_rows trees dbs_tree rows in
     record {
@@ -186,5 +186,5 @@ dbs_laid trees rows h numbered each apart lengths lawful =
 -- ---- texts
 
 -- the canonical text of a lawful value spells it
-pub spelled : (v : json.Value) → IsLawful v → json.depth v ≤ max_open → json_in (text_cell v) ≡ v
-spelled v lawful shallow = ap value_or_null (reading-canonical v lawful shallow)
+pub spelled : (v : json.Value) → IsLawful v → json.depth v ≤ max_open → json_in_cell (text_cell v) ≡ v
+spelled v lawful shallow = ap read_or_null (reading-canonical v lawful shallow)

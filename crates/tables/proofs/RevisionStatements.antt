@@ -1,5 +1,5 @@
 -- What the statements on revisions mean.
-use Rattle.tables.proofs.Common.{AllByRecursion, Blob, Bool, Decides-int_eq, Delete, IsAscending, IsLaid, IsRevisionRow, Revision, Term, Trees, all_weaker, and_parts, ap, ascending_weaker, bytes_eq, bytes_eq-Decides, column, db_of, eq_by_cmp, false, holds, id_of, int_eq, is_in, is_revision_of, list_all, revision_cmp, revision_of, same, same_int, shown_hash, shown_outline, sym, tied, true, ◌&&◌, ◌∙◌, ◌≢◌, IfOk, Insert, Int, IsPermutation, IsStore, List, Null, Result, Row, Select, Shown, State, Text, Value, Values, [], as_text, cast_row, codes, col, cond, everything, filter, given_cells, is_of, lit, map, pos, refl, revs_table, revs_tree, schema, shown_revision, understood, ℕ, ℤ, ◌∷◌, ◌≡◌}
+use Rattle.tables.proofs.Common.{AllByRecursion, Blob, Bool, Decides-int_eq, Delete, IsAscending, IsWellFormed, IsRevisionRow, Revision, Term, Trees, all_weaker, and_parts, ap, ascending_weaker, bytes_eq, bytes_eq-Decides, column, db_of, eq_by_cmp, false, holds, id_of, int_eq, is_row_of_database, is_revision_of, list_all, revision_cmp, revision_of_row, same, same_int, shown_hash, shown_outline, sym, tied, true, ◌&&◌, ◌∙◌, ◌≢◌, IfOk, Insert, Int, IsPermutation, IsStore, List, Null, Result, Row, Select, Shown, State, Text, Value, Values, [], as_text, cast_row, codes, col, cond, everything, filter, given_cells, is_row_of_document, lit, map, pos, refl, revs_table, revs_tree, schema, shown_revision, understood, ℕ, ℤ, ◌∷◌, ◌≡◌}
 use Rattle.tables.proofs.Cells.{by_db, by_id, cast_null, cast_int, compares, int_by, same_blob, same_text, tests_id}
 use Rattle.sqlite_sql.specs.declared.ops.CompareOp.TheVariants.{Eq}
 use Rattle.sqlite_typed.proofs.TestLemmas.{last_term, then_term}
@@ -29,8 +29,8 @@ unfolding understood everything
 revisions_are = record { is = refl; plain = (refl, refl); unlisted = refl }
 
 pub finds_revisions : {X E : Type 0} (old new : State) → IsStore old.now → (db : ℤ) (id : List ℕ) (r : Result X E) (items : X → List Row) → IfOk r (λ x. Shown revisions_text (Int db ∷ Blob id ∷ []) old new (items x))
-    → IfOk r (λ x. IsPermutation (map shown_revision (filter (is_of db id) (old.now.trees revs_tree))) (items x))
-finds_revisions old new is db id = finds_where old new is.schema_is revisions_are (Int db ∷ Blob id ∷ []) (is_of db id) shown_revision refl (λ r. refl) (tests_id db id [] _ (revs_keyed old.now.trees is.laid))
+    → IfOk r (λ x. IsPermutation (map shown_revision (filter (is_row_of_document db id) (old.now.trees revs_tree))) (items x))
+finds_revisions old new is db id = finds_where old new is.schema_is revisions_are (Int db ∷ Blob id ∷ []) (is_row_of_document db id) shown_revision refl (λ r. refl) (tests_id db id [] _ (revs_keyed old.now.trees is.laid))
 
 -- ---- one revision
 
@@ -69,28 +69,28 @@ same_revision r q =
     let hash : bytes_eq r.hash q.hash ≡ true = (bytes_eq-Decides r.hash q.hash).1 (ap (λ (x : Revision). x.hash) (sym one)) in
     rw (number, hash) refl)
 
-tests_revision : (trees : Trees) (db : ℤ) (id : List ℕ) (q : Revision) → IsLaid trees
+tests_revision : (trees : Trees) (db : ℤ) (id : List ℕ) (q : Revision) → IsWellFormed trees
     → AllByRecursion (λ r. list_all (holds ((Int db ∷ Blob id ∷ Int (pos q.number) ∷ Text q.hash ∷ []) ∷ r ∷ [])) by_revision ≡ is_revision_of db id q r) (trees revs_tree)
 tests_revision trees db id q laid =
     all_weaker (IsRevisionRow trees) (λ r. list_all (holds ((Int db ∷ Blob id ∷ Int (pos q.number) ∷ Text q.hash ∷ []) ∷ r ∷ [])) by_revision ≡ is_revision_of db id q r)
     (λ r k.
     then_term (int_by Eq (column r 1) (db_of r) db (ap (λ x. column x 1) k.is))
     (then_term (same_blob (column r 2) (id_of r) id (ap (λ x. column x 2) k.is))
-    (then_term (int_by Eq (column r 3) (pos (revision_of r).number) (pos q.number) (ap (λ x. column x 3) k.is))
-    (last_term (same_text (column r 4) (revision_of r).hash q.hash (ap (λ x. column x 4) k.is)))))
-    ∙ ap (λ b. is_in db r && (bytes_eq (id_of r) id && b)) (same_revision (revision_of r) q)
-    ∙ grouped (is_in db r) (bytes_eq (id_of r) id) (eq_by_cmp revision_cmp q (revision_of r))) (trees revs_tree) laid.revs
+    (then_term (int_by Eq (column r 3) (pos (revision_of_row r).number) (pos q.number) (ap (λ x. column x 3) k.is))
+    (last_term (same_text (column r 4) (revision_of_row r).hash q.hash (ap (λ x. column x 4) k.is)))))
+    ∙ ap (λ b. is_row_of_database db r && (bytes_eq (id_of r) id && b)) (same_revision (revision_of_row r) q)
+    ∙ grouped (is_row_of_database db r) (bytes_eq (id_of r) id) (eq_by_cmp revision_cmp q (revision_of_row r))) (trees revs_tree) laid.revs
 
 -- at most one row is that of the revision
-pub one_revision_of : (rows : List Row) → IsAscending (λ a b. db_of a ≡ db_of b → id_of a ≡ id_of b → revision_of a ≢ revision_of b) rows → (db : ℤ) (id : List ℕ) (q : Revision) → HasOneAtMost (is_revision_of db id q) rows
+pub one_revision_of : (rows : List Row) → IsAscending (λ a b. db_of a ≡ db_of b → id_of a ≡ id_of b → revision_of_row a ≢ revision_of_row b) rows → (db : ℤ) (id : List ℕ) (q : Revision) → HasOneAtMost (is_revision_of db id q) rows
 one_revision_of rows apart db id q =
-    ascending_weaker (λ a b. db_of a ≡ db_of b → id_of a ≡ id_of b → revision_of a ≢ revision_of b) (λ a b. is_revision_of db id q a ≡ true → is_revision_of db id q b ≡ true → ⊥)
+    ascending_weaker (λ a b. db_of a ≡ db_of b → id_of a ≡ id_of b → revision_of_row a ≢ revision_of_row b) (λ a b. is_revision_of db id q a ≡ true → is_revision_of db id q b ≡ true → ⊥)
     (λ a b h x y.
-    let at_a = and_parts (is_of db id a) _ x in
-    let at_b = and_parts (is_of db id b) _ y in
+    let at_a = and_parts (is_row_of_document db id a) _ x in
+    let at_b = and_parts (is_row_of_document db id b) _ y in
     let own_a = of_these db id a at_a.0 in
     let own_b = of_these db id b at_b.0 in
-    h (own_a.0 ∙ sym own_b.0) (own_a.1 ∙ sym own_b.1) (sym (same q (revision_of a) at_a.1) ∙ same q (revision_of b) at_b.1)) rows apart
+    h (own_a.0 ∙ sym own_b.0) (own_a.1 ∙ sym own_b.1) (sym (same q (revision_of_row a) at_a.1) ∙ same q (revision_of_row b) at_b.1)) rows apart
 
 pub finds_one_revision : {X E : Type 0} (old new : State) → IsStore old.now → (db : ℤ) (id : List ℕ) (q : Revision) (r : Result X E) (items : X → List Row)
     → IfOk r (λ x. Shown one_revision_text (Int db ∷ Blob id ∷ Int (pos q.number) ∷ Text q.hash ∷ []) old new (items x)) → IfOk r (λ x. items x ≡ map shown_revision (filter (is_revision_of db id q) (old.now.trees revs_tree)))
@@ -108,8 +108,8 @@ unfolding understood everything
 outline_is = record { is = refl; plain = (refl, refl); unlisted = refl }
 
 pub finds_outline : {X E : Type 0} (old new : State) → IsStore old.now → (db : ℤ) (id : List ℕ) (r : Result X E) (items : X → List Row) → IfOk r (λ x. Shown outline_text (Int db ∷ Blob id ∷ []) old new (items x))
-    → IfOk r (λ x. IsPermutation (map shown_outline (filter (is_of db id) (old.now.trees revs_tree))) (items x))
-finds_outline old new is db id = finds_where old new is.schema_is outline_is (Int db ∷ Blob id ∷ []) (is_of db id) shown_outline refl (λ r. refl) (tests_id db id [] _ (revs_keyed old.now.trees is.laid))
+    → IfOk r (λ x. IsPermutation (map shown_outline (filter (is_row_of_document db id) (old.now.trees revs_tree))) (items x))
+finds_outline old new is db id = finds_where old new is.schema_is outline_is (Int db ∷ Blob id ∷ []) (is_row_of_document db id) shown_outline refl (λ r. refl) (tests_id db id [] _ (revs_keyed old.now.trees is.laid))
 
 -- ---- revisions by their numbers and hashes alone
 
@@ -121,8 +121,8 @@ unfolding understood everything
 hash_is = record { is = refl; plain = (refl, refl); unlisted = refl }
 
 pub finds_hashes : {X E : Type 0} (old new : State) → IsStore old.now → (db : ℤ) (id : List ℕ) (r : Result X E) (items : X → List Row) → IfOk r (λ x. Shown hash_text (Int db ∷ Blob id ∷ []) old new (items x))
-    → IfOk r (λ x. IsPermutation (map shown_hash (filter (is_of db id) (old.now.trees revs_tree))) (items x))
-finds_hashes old new is db id = finds_where old new is.schema_is hash_is (Int db ∷ Blob id ∷ []) (is_of db id) shown_hash refl (λ r. refl) (tests_id db id [] _ (revs_keyed old.now.trees is.laid))
+    → IfOk r (λ x. IsPermutation (map shown_hash (filter (is_row_of_document db id) (old.now.trees revs_tree))) (items x))
+finds_hashes old new is db id = finds_where old new is.schema_is hash_is (Int db ∷ Blob id ∷ []) (is_row_of_document db id) shown_hash refl (λ r. refl) (tests_id db id [] _ (revs_keyed old.now.trees is.laid))
 
 -- ---- one revision without its body
 

@@ -1,5 +1,5 @@
 -- A document with as many known revisions as the number of one of them: they are its path, and it is the only leaf.
-use Rattle.tables.proofs.Common.{AllByRecursion, IsLaid, IsPermutation, IsRevisionRow, Row, Text, Trees, all_map, all_weaker, and_parts, column, count_in, db_of, entry_of, history_in, inside, is_of, length-map, map, parent_cell, parent_in, revision_cmp_total, revision_of, revs_tree, shown_hash, slice_get, ℤ, ◌-◌}
+use Rattle.tables.proofs.Common.{AllByRecursion, IsWellFormed, IsPermutation, IsRevisionRow, Row, Text, Trees, all_map, all_weaker, and_parts, column, count_in_cell, db_of, entry_of, history_in_rows, inside, is_row_of_document, length-map, map, parent_cell, parent_in, revision_cmp_total, revision_of_row, revs_tree, shown_hash, slice_get, ℤ, ◌-◌}
 use Rattle.tables.proofs.Tables.{of_these}
 use Rattle.tables.specs.Shown.{revision_shown}
 use Rattle.std.specs.FinMap as finite
@@ -161,30 +161,30 @@ module _ (h : HistoryContent) (rs : List Revision) (are : AreKnown h rs) (rooted
 -- ---- the rows of a document
 
 abbrev known_entry : Row → Revision × Entry
-known_entry r = (revision_of r, entry_of r)
+known_entry r = (revision_of_row r, entry_of r)
 
 -- what is found at a revision is what one of its rows says
 pub record IsAt (rows : List Row) (holds : Row → Type 0) (q : Revision) (e : Entry) : Type 0 where
   pub row : Row
   pub so : holds row
-  pub named : revision_of row ≡ q
+  pub named : revision_of_row row ≡ q
   pub said : entry_of row ≡ e
-  pub among : StandsIn (map revision_of rows) q
+  pub among : StandsIn (map revision_of_row rows) q
 
 found_at : (holds : Row → Type 0) (rows : List Row) → AllByRecursion holds rows → (q : Revision) (e : Entry) → finite.find revision_cmp q (map known_entry rows) ≡ Some e → IsAt rows holds q e
 found_at holds [] all q e found = absurd (cc)
-found_at holds (r ∷ rows) all q e found = by (eq_by_cmp revision_cmp q (revision_of r)) refl found (found_at holds rows all.1 q e)
+found_at holds (r ∷ rows) all q e found = by (eq_by_cmp revision_cmp q (revision_of_row r)) refl found (found_at holds rows all.1 q e)
   where
-    by : (b : Bool) → eq_by_cmp revision_cmp q (revision_of r) ≡ b → cond b (Some (entry_of r)) (finite.find revision_cmp q (map known_entry rows)) ≡ Some e
+    by : (b : Bool) → eq_by_cmp revision_cmp q (revision_of_row r) ≡ b → cond b (Some (entry_of r)) (finite.find revision_cmp q (map known_entry rows)) ≡ Some e
         → (finite.find revision_cmp q (map known_entry rows) ≡ Some e → IsAt rows holds q e) → IsAt (r ∷ rows) holds q e
-    by true t f rest = record { row = r; so = all.0; named = sym (same q (revision_of r) t); said = inside _ e f; among = inl (sym (same q (revision_of r) t)) }
+    by true t f rest = record { row = r; so = all.0; named = sym (same q (revision_of_row r) t); said = inside _ e f; among = inl (sym (same q (revision_of_row r) t)) }
     by false t f rest = let at = rest f in record { row = at.row; so = at.so; named = at.named; said = at.said; among = inr at.among }
 
-stands_found : (rows : List Row) (q : Revision) → StandsIn (map revision_of rows) q → is_some (finite.find revision_cmp q (map known_entry rows)) ≡ true
+stands_found : (rows : List Row) (q : Revision) → StandsIn (map revision_of_row rows) q → is_some (finite.find revision_cmp q (map known_entry rows)) ≡ true
 stands_found [] q at = absurd at
-stands_found (r ∷ rows) q (inl is) = ap (λ (b : Bool). is_some (cond b (Some (entry_of r)) (finite.find revision_cmp q (map known_entry rows)))) (tied q (revision_of r) (sym is))
+stands_found (r ∷ rows) q (inl is) = ap (λ (b : Bool). is_some (cond b (Some (entry_of r)) (finite.find revision_cmp q (map known_entry rows)))) (tied q (revision_of_row r) (sym is))
 stands_found (r ∷ rows) q (inr at) =
-    elim (eq_by_cmp revision_cmp q (revision_of r)) as (λ b. is_some (cond b (Some (entry_of r)) (finite.find revision_cmp q (map known_entry rows))) ≡ true) [ true ↦ refl | false ↦ stands_found rows q at ]
+    elim (eq_by_cmp revision_cmp q (revision_of_row r)) as (λ b. is_some (cond b (Some (entry_of r)) (finite.find revision_cmp q (map known_entry rows))) ≡ true) [ true ↦ refl | false ↦ stands_found rows q at ]
 
 both_passing : (P : Row → Type 0) (p : Row → Bool) (rows : List Row) → AllByRecursion P rows → AllByRecursion (λ r. P r × (p r ≡ true)) (filter p rows)
 both_passing P p [] all = tt
@@ -194,35 +194,35 @@ both_passing P p (r ∷ rows) all =
       | false ↦ λ t. both_passing P p rows all.1
     ] refl
 
-named_in : (rows : List Row) → AllByRecursion (λ r. StandsIn (map revision_of rows) (revision_of r)) rows
+named_in : (rows : List Row) → AllByRecursion (λ r. StandsIn (map revision_of_row rows) (revision_of_row r)) rows
 named_in [] = tt
-named_in (r ∷ rows) = (inl refl, all_weaker (λ s. StandsIn (map revision_of rows) (revision_of s)) (λ s. StandsIn (map revision_of (r ∷ rows)) (revision_of s)) (λ s k. inr k) rows (named_in rows))
+named_in (r ∷ rows) = (inl refl, all_weaker (λ s. StandsIn (map revision_of_row rows) (revision_of_row s)) (λ s. StandsIn (map revision_of_row (r ∷ rows)) (revision_of_row s)) (λ s k. inr k) rows (named_in rows))
 
 one_at : (P : Row → Type 0) (rows : List Row) (i : ℕ) (s : Row) → AllByRecursion P rows → slice_get rows i ≡ Some s → P s
 one_at P [] i s all is = absurd (cc)
 one_at P (r ∷ rows) zero s all is = subst P (inside r s is) all.0
 one_at P (r ∷ rows) (suc i) s all is = one_at P rows i s all.1 is
 
-module _ (trees : Trees) (laid : IsLaid trees) (db : ℤ) (id : List ℕ) where
+module _ (trees : Trees) (laid : IsWellFormed trees) (db : ℤ) (id : List ℕ) where
   abbrev own_rows : List Row
-  own_rows = filter (is_of db id) (trees revs_tree)
+  own_rows = filter (is_row_of_document db id) (trees revs_tree)
 
   abbrev history : HistoryContent
-  history = history_in (trees revs_tree) db id
+  history = history_in_rows (trees revs_tree) db id
 
   kept : (q : Revision) → get history q ≡ finite.find revision_cmp q (map known_entry own_rows)
   kept q = finite.get-from_entries revision_cmp_total (map known_entry own_rows) q
 
   abbrev Holds : Row → Type 0
-  Holds r = IsRevisionRow trees r × (is_of db id r ≡ true)
+  Holds r = IsRevisionRow trees r × (is_row_of_document db id r ≡ true)
 
   row_at : (q : Revision) (e : Entry) → get history q ≡ Some e → IsAt own_rows Holds q e
-  row_at q e got = found_at Holds own_rows (both_passing (IsRevisionRow trees) (is_of db id) (trees revs_tree) laid.revs) q e (sym (kept q) ∙ got)
+  row_at q e got = found_at Holds own_rows (both_passing (IsRevisionRow trees) (is_row_of_document db id) (trees revs_tree) laid.revs) q e (sym (kept q) ∙ got)
 
-  are_known : AreKnown history (map revision_of own_rows)
+  are_known : AreKnown history (map revision_of_row own_rows)
   are_known q = (λ at. ap is_some (kept q) ∙ stands_found own_rows q at, λ known. by (get history q) refl known)
     where
-      by : (o : Option Entry) → get history q ≡ o → is_some o ≡ true → StandsIn (map revision_of own_rows) q
+      by : (o : Option Entry) → get history q ≡ o → is_some o ≡ true → StandsIn (map revision_of_row own_rows) q
       by None got known = absurd (cc)
       by (Some e) got known = (row_at q e got).among
 
@@ -230,7 +230,7 @@ module _ (trees : Trees) (laid : IsLaid trees) (db : ℤ) (id : List ℕ) where
   record HasParent (q : Revision) (o : Option Revision) : Type 0 where
     row : Row
     so : Holds row
-    named : revision_of row ≡ q
+    named : revision_of_row row ≡ q
     parent : (entry_of row).parent ≡ o
 
   parent_at : (q : Revision) (o : Option Revision) → is_known history q ≡ true → parent_of history q ≡ o → HasParent q o
@@ -245,12 +245,12 @@ module _ (trees : Trees) (laid : IsLaid trees) (db : ℤ) (id : List ℕ) where
     parents_known = λ q p up.
         let at = parent_at q (Some p) (parent_known history q p up) up in
         let own = of_these db id at.row at.so.1 in
-        subst (λ (n : ℤ). is_known (history_in (trees revs_tree) n id) p ≡ true) own.0
-        (subst (λ (k : List ℕ). is_known (history_in (trees revs_tree) (db_of at.row) k) p ≡ true) own.1 (at.so.0.follows p at.parent));
+        subst (λ (n : ℤ). is_known (history_in_rows (trees revs_tree) n id) p ≡ true) own.0
+        (subst (λ (k : List ℕ). is_known (history_in_rows (trees revs_tree) (db_of at.row) k) p ≡ true) own.1 (at.so.0.follows p at.parent));
     descends = λ q p up.
         let at = parent_at q (Some p) (parent_known history q p up) up in
         let cell : column at.row 5 ≡ Text p.hash = ap (λ x. column x 5) at.so.0.is ∙ ap parent_cell at.parent in
-        let number = ap (λ (x : Revision). x.number) (sym (inside _ p (sym (ap (parent_in (count_in (column at.row 3))) cell) ∙ at.parent))) in
+        let number = ap (λ (x : Revision). x.number) (sym (inside _ p (sym (ap (parent_in (count_in_cell (column at.row 3))) cell) ∙ at.parent))) in
         let least = (and_parts _ _ (and_parts _ _ at.so.0.lawful).0).0 in
         less_one q.number p.number (ap (λ (x : Revision). x.number) (sym at.named)) number least;
     begins = λ q known up.
@@ -265,7 +265,7 @@ module _ (trees : Trees) (laid : IsLaid trees) (db : ℤ) (id : List ℕ) where
   pub single_shown : (shown : List Row) (i : ℕ) (s : Row) → IsPermutation (map shown_hash own_rows) shown → slice_get shown i ≡ Some s → (revision_shown s).number ≡ length shown
       → leaves history ≡ revision_shown s ∷ []
   single_shown shown i s permuted at many =
-      let among = one_at (λ t. StandsIn (map revision_of own_rows) (revision_shown t)) shown i s
-      (all-permutation (λ t. StandsIn (map revision_of own_rows) (revision_shown t)) (map shown_hash own_rows) shown permuted (all_map (λ t. StandsIn (map revision_of own_rows) (revision_shown t)) shown_hash own_rows (named_in own_rows))) at in
-      let all : length (map revision_of own_rows) ≡ (revision_shown s).number = length-map own_rows revision_of ∙ sym (length-map own_rows shown_hash) ∙ sym (length_permutation _ _ permuted) ∙ sym many in
-      only_leaves history (map revision_of own_rows) are_known is_rooted (revision_shown s) ((are_known (revision_shown s)).0 among) all
+      let among = one_at (λ t. StandsIn (map revision_of_row own_rows) (revision_shown t)) shown i s
+      (all-permutation (λ t. StandsIn (map revision_of_row own_rows) (revision_shown t)) (map shown_hash own_rows) shown permuted (all_map (λ t. StandsIn (map revision_of_row own_rows) (revision_shown t)) shown_hash own_rows (named_in own_rows))) at in
+      let all : length (map revision_of_row own_rows) ≡ (revision_shown s).number = length-map own_rows revision_of_row ∙ sym (length-map own_rows shown_hash) ∙ sym (length_permutation _ _ permuted) ∙ sym many in
+      only_leaves history (map revision_of_row own_rows) are_known is_rooted (revision_shown s) ((are_known (revision_shown s)).0 among) all

@@ -36,8 +36,8 @@ abbrev pub IsServed : {S X E : Type 0} → Ghosts S → Held S → Held S → Re
 IsServed g old new r = HasCleanDisk (state g new) → OnOk r (IsTrue (state g old).is_open)
 
 -- and leaves the connection as it is
-abbrev pub Stands : {S X E : Type 0} → Ghosts S → Held S → Held S → Result X E → Type 0
-Stands g old new r = old.schema ≡ schema → HasCleanDisk (state g new) → OnOk r (IsUnchanged (state g old) (state g new))
+abbrev pub KeepsConnection : {S X E : Type 0} → Ghosts S → Held S → Held S → Result X E → Type 0
+KeepsConnection g old new r = old.schema ≡ schema → HasCleanDisk (state g new) → OnOk r (IsUnchanged (state g old) (state g new))
 
 -- in a transaction nothing is committed
 abbrev pub LooksInside : {S : Type 0} → Ghosts S → Held S → Held S → Type 0
@@ -51,7 +51,7 @@ AsksInside g old new = steps.AsksInside (state g old) (state g new)
 pub record Reads {S X E : Type 0} (g : Ghosts S) (IsFit : Database → Type 0) (old new : Held S) (Is : Trees → X → Type 0) (r : Result X E) : Type 0 where
   pub found : HasCleanDisk (state g new) → IsFit (state g old).now → IfOk r (Is (state g old).now.trees)
   pub served : IsServed g old new r
-  pub stands : Stands g old new r
+  pub stands : KeepsConnection g old new r
   -- where it fails a transaction may be undone; nothing is written
   pub looks : old.schema ≡ schema → steps.OnlyLooks (state g old) (state g new)
   -- whatever the schema is, nothing is opened or begun
@@ -61,7 +61,7 @@ pub record Reads {S X E : Type 0} (g : Ghosts S) (IsFit : Database → Type 0) (
 pub record ReadsInside {S X E : Type 0} (g : Ghosts S) (IsFit : Database → Type 0) (old new : Held S) (Is : Trees → X → Type 0) (r : Result X E) : Type 0 where
   pub found : HasCleanDisk (state g new) → IsFit (state g old).now → IfOk r (Is (state g old).now.trees)
   pub served : IsServed g old new r
-  pub stands : Stands g old new r
+  pub stands : KeepsConnection g old new r
   pub looks : LooksInside g old new
   pub asks : AsksInside g old new
 

@@ -15,7 +15,7 @@ use Rattle.sqlite_value.specs.Order.{Row}
 use Rattle.sqlite_trees.specs.Tree.{Trees}
 use Rattle.sqlite.specs.Effect as sqlite
 use Rattle.tables.specs.Layout.{IsStore}
-use Rattle.tables.specs.Rows.{number_of, length_of, is_named, with_cells, revision_cells, rows_with_document, row_at_sequence, rows_at_sequence, history_in, database_of, contents_in}
+use Rattle.tables.specs.Rows.{number_of, sequence_of_database, is_named, with_cells, revision_cells, rows_with_document, row_at_sequence, rows_at_sequence, history_in_rows, database_of_row, contents_in}
 use Rattle.tables.specs.Schema.{dbs_tree, docs_tree, revs_tree}
 use Rattle.tables.specs.Steps.{Changes}
 
@@ -35,7 +35,7 @@ AreInserted (e ∷ es) db id a c = (b : sqlite.Database) × Changes revs_tree (w
 
 -- the document's history before the write, and after it
 abbrev pub history_before : Trees → Row → DocumentWrite → HistoryContent
-history_before trees r w = history_in (trees revs_tree) (number_of r) w.id
+history_before trees r w = history_in_rows (trees revs_tree) (number_of r) w.id
 
 abbrev pub history_after : Trees → Row → DocumentWrite → HistoryContent
 history_after trees r w = with_write (history_before trees r w) w.write
@@ -50,9 +50,9 @@ pub record IsStorable (w : DocumentWrite) : Type 0 where
 -- the write may be done in the database of this name, which has this row
 pub record IsWritable (trees : Trees) (name : List ℕ) (r : Row) (w : DocumentWrite) : Type 0 where
   pub found : slice_get (filter (is_named name) (trees dbs_tree)) 0 ≡ Some r
-  pub acceptable : IsAcceptable (database_of trees r) w
+  pub acceptable : IsAcceptable (database_of_row trees r) w
   pub storable : IsStorable w
-  pub room : length_of r + 1 < 2 ^ 63
+  pub room : sequence_of_database r + 1 < 2 ^ 63
 
 -- the statements of the write, in the database that has this row
 pub record IsWrite (r : Row) (w : DocumentWrite) (old new : sqlite.Database) : Type 0 where
@@ -61,16 +61,16 @@ pub record IsWrite (r : Row) (w : DocumentWrite) (old new : sqlite.Database) : T
   pub best : Revision
   pub revisions : AreInserted (new_entries (history_before old.trees r w) w.write) (number_of r) w.id old inserted
   pub best_is : winner (history_after old.trees r w) ≡ Some best
-  pub places : Changes docs_tree (rows_with_document (number_of r) w.id (pos (length_of r + 1)) (text_of best) (is_deleted (held_of (history_after old.trees r w) best)) (inserted.trees docs_tree)) inserted placed
-  pub advances : Changes dbs_tree (rows_at_sequence (number_of r) (pos (length_of r + 1)) (placed.trees dbs_tree)) placed new
+  pub places : Changes docs_tree (rows_with_document (number_of r) w.id (pos (sequence_of_database r + 1)) (text_of best) (is_deleted (held_of (history_after old.trees r w) best)) (inserted.trees docs_tree)) inserted placed
+  pub advances : Changes dbs_tree (rows_at_sequence (number_of r) (pos (sequence_of_database r + 1)) (placed.trees dbs_tree)) placed new
 
 -- the database's row after so many writes
 abbrev pub row_after : Row → ℕ → Row
-row_after r count = row_at_sequence (pos (length_of r + count)) r
+row_after r count = row_at_sequence (pos (sequence_of_database r + count)) r
 
 -- these writes were done, one after another, in the database of this name, which had this row
 pub record HasWritten (ws : List DocumentWrite) (name : List ℕ) (r : Row) (old new : sqlite.Database) : Type 0 where
   pub store : IsStore new
   pub row : slice_get (filter (is_named name) (new.trees dbs_tree)) 0 ≡ Some (row_after r (length ws))
-  pub database : database_of new.trees (row_after r (length ws)) ≡ with_all (database_of old.trees r) ws
-  pub contents : contents_in new.trees ≡ insert (contents_in old.trees) name (with_all (database_of old.trees r) ws)
+  pub database : database_of_row new.trees (row_after r (length ws)) ≡ with_all (database_of_row old.trees r) ws
+  pub contents : contents_in new.trees ≡ insert (contents_in old.trees) name (with_all (database_of_row old.trees r) ws)

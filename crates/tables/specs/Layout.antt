@@ -17,7 +17,7 @@ use Rattle.sqlite_value.specs.Order.{Row, column}
 use Rattle.sqlite_trees.specs.Tree.{Trees, IsAscending, rowid}
 use Rattle.sqlite.specs.Effect as sqlite
 use Rattle.tables.specs.Schema.{schema, meta_tree, dbs_tree, docs_tree, revs_tree, locals_tree, decls_tree, entries_tree}
-use Rattle.tables.specs.Rows.{number_of, db_of, id_of, is_of, count, database_row, name_of, security_text, security_of, length_of, document_row, sequence_of, winner_text, is_gone, revision_row, revision_of, entry_of, local_row, local_of, history_in, contents_in}
+use Rattle.tables.specs.Rows.{number_of, db_of, id_of, is_row_of_document, count_cell, database_row, name_of, security_text, security_of, sequence_of_database, document_row, sequence_of_row, winner_text, is_gone_row, revision_row, revision_of_row, entry_of, local_row, local_of, history_in_rows, contents_in}
 
 -- each row has a number, and the numbers rise
 pub record AreNumbered (rows : List Row) : Type 0 where
@@ -42,7 +42,7 @@ pub record AreDocumentRows (rows : List Row) : Type 0 where
 
 -- each row is that of a database, and the numbers rise
 pub record AreDatabaseRows (rows : List Row) : Type 0 where
-  pub each : AllByRecursion (λ r. r ≡ database_row (number_of r) (name_of r) (security_text r) (pos (length_of r))) rows
+  pub each : AllByRecursion (λ r. r ≡ database_row (number_of r) (name_of r) (security_text r) (pos (sequence_of_database r))) rows
   pub rising : IsAscending (λ a b. number_of a <ℤ number_of b) rows
 
 -- some database has this number
@@ -50,39 +50,39 @@ abbrev pub IsDatabaseNumber : Trees → ℤ → Type 0
 IsDatabaseNumber trees db = IsTrue (list_any (λ r. int_eq (number_of r) db) (trees dbs_tree))
 
 -- the row of the database of this number
-abbrev pub database_at : List Row → ℤ → Option Row
-database_at rows db = find (λ r. int_eq (number_of r) db) rows
+abbrev pub database_row_at : List Row → ℤ → Option Row
+database_row_at rows db = find (λ r. int_eq (number_of r) db) rows
 
 -- the one row of `meta`, at this version
 abbrev pub version_row : ℕ → Row
-version_row n = Int (pos 1) ∷ count n ∷ []
+version_row n = Int (pos 1) ∷ count_cell n ∷ []
 
 -- the row of a database with a name, a security object in canonical text, and a sequence
 pub record IsDatabaseRow (r : Row) : Type 0 where
-  pub is : r ≡ database_row (number_of r) (name_of r) (canonical (security_of r)) (pos (length_of r))
+  pub is : r ≡ database_row (number_of r) (name_of r) (canonical (security_of r)) (pos (sequence_of_database r))
   pub named : IsTrue (is_database_name (name_of r))
   pub security : IsTrue (is_security (security_of r))
-  pub bounded : length_of r < 2 ^ 63
+  pub bounded : sequence_of_database r < 2 ^ 63
 
 -- the row of a document of a known database, at its winner
 pub record IsDocumentRow (trees : Trees) (r : Row) : Type 0 where
-  pub is : r ≡ document_row (number_of r) (db_of r) (id_of r) (pos (sequence_of r)) (winner_text r) (is_gone r)
+  pub is : r ≡ document_row (number_of r) (db_of r) (id_of r) (pos (sequence_of_row r)) (winner_text r) (is_gone_row r)
   pub there : IsDatabaseNumber trees (db_of r)
   pub named : IsTrue (is_document_id (id_of r))
   pub text : IsUtf8 (id_of r)
-  pub positive : 1 ≤ sequence_of r
-  pub within : (d : Row) → database_at (trees dbs_tree) (db_of r) ≡ Some d → sequence_of r ≤ length_of d
-  pub won : option_map text_of (winner (history_in (trees revs_tree) (db_of r) (id_of r))) ≡ Some (winner_text r)
-  pub gone : (w : Revision) → winner (history_in (trees revs_tree) (db_of r) (id_of r)) ≡ Some w
-      → is_gone r ≡ is_deleted (held_of (history_in (trees revs_tree) (db_of r) (id_of r)) w)
+  pub positive : 1 ≤ sequence_of_row r
+  pub within : (d : Row) → database_row_at (trees dbs_tree) (db_of r) ≡ Some d → sequence_of_row r ≤ sequence_of_database d
+  pub won : option_map text_of (winner (history_in_rows (trees revs_tree) (db_of r) (id_of r))) ≡ Some (winner_text r)
+  pub gone : (w : Revision) → winner (history_in_rows (trees revs_tree) (db_of r) (id_of r)) ≡ Some w
+      → is_gone_row r ≡ is_deleted (held_of (history_in_rows (trees revs_tree) (db_of r) (id_of r)) w)
 
 -- the row of a known revision of a document that has a row of its own
 pub record IsRevisionRow (trees : Trees) (r : Row) : Type 0 where
-  pub is : r ≡ revision_row (number_of r) (db_of r) (id_of r) (revision_of r) (entry_of r)
-  pub there : IsTrue (list_any (is_of (db_of r) (id_of r)) (trees docs_tree))
-  pub lawful : IsTrue (is_revision (revision_of r))
-  pub first : ((entry_of r).parent ≡ None) ↔ ((revision_of r).number ≡ 1)
-  pub follows : (p : Revision) → (entry_of r).parent ≡ Some p → IsTrue (is_known (history_in (trees revs_tree) (db_of r) (id_of r)) p)
+  pub is : r ≡ revision_row (number_of r) (db_of r) (id_of r) (revision_of_row r) (entry_of r)
+  pub there : IsTrue (list_any (is_row_of_document (db_of r) (id_of r)) (trees docs_tree))
+  pub lawful : IsTrue (is_revision (revision_of_row r))
+  pub first : ((entry_of r).parent ≡ None) ↔ ((revision_of_row r).number ≡ 1)
+  pub follows : (p : Revision) → (entry_of r).parent ≡ Some p → IsTrue (is_known (history_in_rows (trees revs_tree) (db_of r) (id_of r)) p)
   pub body : (held : Held) → (entry_of r).held ≡ Some held → IsBody held.body
   pub spelled : (held : Held) → (entry_of r).held ≡ Some held → json.IsLawful held.body
 
@@ -105,21 +105,21 @@ pub record IsLaidAt (n : ℕ) (trees : Trees) : Type 0 where
   pub names_apart : IsAscending (λ a b. name_of a ≢ name_of b) (trees dbs_tree)
   pub docs : AllByRecursion (IsDocumentRow trees) (trees docs_tree)
   pub ids_apart : IsAscending (λ a b. db_of a ≡ db_of b → id_of a ≢ id_of b) (trees docs_tree)
-  pub sequences_apart : IsAscending (λ a b. db_of a ≡ db_of b → sequence_of a ≢ sequence_of b) (trees docs_tree)
+  pub sequences_apart : IsAscending (λ a b. db_of a ≡ db_of b → sequence_of_row a ≢ sequence_of_row b) (trees docs_tree)
   pub revs : AllByRecursion (IsRevisionRow trees) (trees revs_tree)
-  pub revisions_apart : IsAscending (λ a b. db_of a ≡ db_of b → id_of a ≡ id_of b → revision_of a ≢ revision_of b) (trees revs_tree)
+  pub revisions_apart : IsAscending (λ a b. db_of a ≡ db_of b → id_of a ≡ id_of b → revision_of_row a ≢ revision_of_row b) (trees revs_tree)
   pub locals : AllByRecursion (IsLocalRow trees) (trees locals_tree)
   pub local_ids_apart : IsAscending (λ a b. db_of a ≡ db_of b → id_of a ≢ id_of b) (trees locals_tree)
   pub lawful : ∥ AreLawful (contents_in trees) ∥₁
 
 -- the same at the version that this server writes
-abbrev pub IsLaid : Trees → Type 0
-IsLaid = IsLaidAt 2
+abbrev pub IsWellFormed : Trees → Type 0
+IsWellFormed = IsLaidAt 2
 
 -- the database has these tables and no others, and their rows are laid out
 pub record IsStore (db : sqlite.Database) : Type 0 where
   pub schema_is : db.schema ≡ schema
-  pub laid : IsLaid db.trees
+  pub laid : IsWellFormed db.trees
 
 -- The same of a file of the first version, whose rows of indexes are of an earlier layout: nothing is known of them but that their numbers rise.
 pub record IsFirstStore (db : sqlite.Database) : Type 0 where

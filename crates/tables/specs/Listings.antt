@@ -16,7 +16,7 @@ use Rattle.sqlite_value.specs.declared.value.Value.{Value}
 use Rattle.sqlite_value.specs.declared.value.Value.TheVariants.{Blob, Int}
 use Rattle.sqlite_keyed.specs.Lists.{sort_by}
 use Rattle.sqlite_value.specs.Order.{Row, bytes, column}
-use Rattle.tables.specs.Rows.{by_id, count_in, history_in, id_of, is_gone, is_in, is_set, listed_document}
+use Rattle.tables.specs.Rows.{by_id, count_in_cell, history_in_rows, id_of, is_gone_row, is_row_of_database, is_set, listed_document}
 use Rattle.tables.specs.Shown.{IsCount, SpellsRevision}
 
 -- the cells of such a row: the id, the sequence, the winner and whether it is deleted
@@ -24,7 +24,7 @@ abbrev pub listed_id : Row → List ℕ
 listed_id s = bytes (column s 0)
 
 abbrev pub listed_sequence : Row → ℕ
-listed_sequence s = count_in (column s 1)
+listed_sequence s = count_in_cell (column s 1)
 
 abbrev pub listed_winner : Row → Option Revision
 listed_winner s = revision_read (bytes (column s 2))
@@ -66,7 +66,7 @@ has_mark deleted gone = if deleted then gone else not gone
 
 -- the row is that of a document of the database, whose winner is marked so and whose id lies between the bounds
 abbrev pub is_marked_between : ℤ → Bool → List ℕ → List ℕ → Row → Bool
-is_marked_between db deleted low high r = is_in db r && (has_mark deleted (is_gone r) && is_between low high (id_of r))
+is_marked_between db deleted low high r = is_row_of_database db r && (has_mark deleted (is_gone_row r) && is_between low high (id_of r))
 
 -- documents go by their ids, downwards the other way round
 abbrev pub by_id_in : Bool → Row → Row → Ordering
@@ -100,7 +100,7 @@ sequence_row s = record { sequence = listed_sequence s; id = listed_id s; revs =
 
 -- the same with all leaves of the document, whose revisions are among these rows
 abbrev pub leaves_row : List Row → ℤ → Row → SequenceRow
-leaves_row revs db s = record { sequence = listed_sequence s; id = listed_id s; revs = leaves (history_in revs db (listed_id s)); deleted = listed_mark s }
+leaves_row revs db s = record { sequence = listed_sequence s; id = listed_id s; revs = leaves (history_in_rows revs db (listed_id s)); deleted = listed_mark s }
 
 -- how many of the winners are deleted, and how many are not
 abbrev pub listed_counts : List Row → DocumentCounts

@@ -6,7 +6,7 @@ use Rattle.std.specs.Ordering.{int_eq}
 use Rattle.sqlite_value.specs.Order.{Row, column}
 use Rattle.sqlite_schema.specs.declared.schema.Schema.{Schema}
 use Rattle.sqlite_schema.specs.Names.{table_named}
-use Rattle.tables.specs.Rows.{whole_in}
+use Rattle.tables.specs.Rows.{whole_in_cell}
 use Rattle.tables.specs.declared.meta.FileVersion.{FileVersion}
 use Rattle.tables.specs.declared.meta.FileVersion.TheVariants.{First, Second, Other}
 
@@ -37,11 +37,11 @@ version_numbered n = if int_eq n (pos 2) then Second else (if int_eq n (pos 1) t
 -- the version that is shown, in one row
 abbrev pub version_shown : List Row → FileVersion
 version_shown [] = Other
-version_shown (s ∷ []) = version_numbered (whole_in (column s 0))
+version_shown (s ∷ []) = version_numbered (whole_in_cell (column s 0))
 version_shown (s ∷ t ∷ more) = Other
 
 -- the version of a file whose `meta` has these rows: it stands in one row
 abbrev pub version_in : List Row → FileVersion
 version_in [] = Other
-version_in (r ∷ []) = version_numbered (whole_in (column r 1))
+version_in (r ∷ []) = version_numbered (whole_in_cell (column r 1))
 version_in (r ∷ s ∷ more) = Other

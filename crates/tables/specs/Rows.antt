@@ -1,6 +1,6 @@
 -- What the rows of the tables say: the databases that they hold, as a function of all rows; a row that is laid out otherwise says something, whatever it is.
 -- The contents are those of `store`; that a known revision is a row is this server's own layout.
-use Rattle.std.specs.Prelude.{ℕ, ◌-◌, ℤ, pos, negsuc, ◌+ℤ◌, ◌++◌, fold, Bool, true, false, ◌&&◌, nat_lt, bytes_eq, if◌then◌else◌, List, [], ◌∷◌, map, filter, Option, Some, None, Result, Ok, Err}
+use Rattle.std.specs.Prelude.{ℕ, ◌-◌, ℤ, pos, ◌+ℤ◌, ◌++◌, fold, Bool, true, false, ◌&&◌, nat_lt, bytes_eq, if◌then◌else◌, List, [], ◌∷◌, map, filter, Option, Some, None, Result, Ok, Err}
 use Rattle.std.specs.declared.cmp.Ordering.{Ordering}
 use Rattle.std.specs.Ordering.{eq_by_cmp, int_eq, nat_cmp}
 use Rattle.std.specs.Cmp.Lexicographic.{slice_cmp}
@@ -10,7 +10,7 @@ use Rattle.couch_json.specs.Canonical.{canonical}
 use Rattle.couch_json.specs.Reading.{reading}
 use Rattle.couch_json.specs.Value as json
 use Rattle.couch_json.specs.declared.fault.JsonFault.{JsonFault}
-use Rattle.tree.specs.History.{HistoryContent, row_of}
+use Rattle.tree.specs.History.{HistoryContent, entry_of_row}
 use Rattle.tree.specs.Revision.{Revision, revision_cmp}
 use Rattle.tree.specs.declared.entry.Entry.{Entry}
 use Rattle.tree.specs.declared.entry.Held.{Held}
@@ -18,7 +18,7 @@ use Rattle.store.specs.Contents.{Contents}
 use Rattle.store.specs.Database.{Database, Document, TextMap}
 use Rattle.store.specs.declared.local_document.LocalDocument.{LocalDocument}
 use Rattle.sqlite_value.specs.declared.value.Value.{Value}
-use Rattle.sqlite_value.specs.declared.value.Value.TheVariants.{Null, Int, Real, Text, Blob}
+use Rattle.sqlite_value.specs.declared.value.Value.TheVariants.{Null, Int, Text, Blob}
 use Rattle.sqlite_value.specs.Order.{Row, column, bytes}
 use Rattle.sqlite_trees.specs.Tree.{Trees, rowid}
 use Rattle.tables.specs.Schema.{dbs_tree, docs_tree, revs_tree, locals_tree}
@@ -26,42 +26,35 @@ use Rattle.tables.specs.Schema.{dbs_tree, docs_tree, revs_tree, locals_tree}
 -- ---- cells
 
 -- the number of a cell; 0 of any other
-abbrev pub whole_in : Value → ℤ
-whole_in Null = pos 0
-whole_in (Int n) = n
-whole_in (Real x) = pos 0
-whole_in (Text t) = pos 0
-whole_in (Blob b) = pos 0
+abbrev pub whole_in_cell : Value → ℤ
+whole_in_cell (Int n) = n
+whole_in_cell v = pos 0
 
 -- the number of a cell that is not negative; 0 of any other
-abbrev pub count_in : Value → ℕ
-count_in Null = 0
-count_in (Int (pos n)) = n
-count_in (Int (negsuc n)) = 0
-count_in (Real x) = 0
-count_in (Text t) = 0
-count_in (Blob b) = 0
+abbrev pub count_in_cell : Value → ℕ
+count_in_cell (Int (pos n)) = n
+count_in_cell v = 0
 
 -- a cell has a number above 0
 abbrev pub is_set : Value → Bool
-is_set v = nat_lt 0 (count_in v)
+is_set v = nat_lt 0 (count_in_cell v)
 
 -- the value that was read, or null
-abbrev pub value_or_null : Result json.Value JsonFault → json.Value
-value_or_null (Ok v) = v
-value_or_null (Err fault) = json.null
+abbrev pub read_or_null : Result json.Value JsonFault → json.Value
+read_or_null (Ok v) = v
+read_or_null (Err fault) = json.null
 
 -- the value that a text in the cell spells
-abbrev pub json_in : Value → json.Value
-json_in v = value_or_null (reading (bytes v))
+abbrev pub json_in_cell : Value → json.Value
+json_in_cell v = read_or_null (reading (bytes v))
 
 -- 1 for true, and 0 for false
 abbrev pub flag : Bool → Value
 flag b = Int (if b then pos 1 else pos 0)
 
 -- a number as a cell
-abbrev pub count : ℕ → Value
-count n = Int (pos n)
+abbrev pub count_cell : ℕ → Value
+count_cell n = Int (pos n)
 
 -- the canonical text of a value as a cell
 abbrev pub text_cell : json.Value → Value
@@ -71,7 +64,7 @@ text_cell v = Text (canonical v)
 
 -- the number by which a table's rows are told apart
 abbrev pub number_of : Row → ℤ
-number_of r = whole_in (rowid r)
+number_of r = whole_in_cell (rowid r)
 
 -- one above the last number, and 1 in an empty table
 abbrev pub next_number : List Row → ℤ
@@ -87,19 +80,19 @@ has_number n r = int_eq (number_of r) n
 
 -- the database that a row of a document, a revision or a local document belongs to, and the id
 abbrev pub db_of : Row → ℤ
-db_of r = whole_in (column r 1)
+db_of r = whole_in_cell (column r 1)
 
 -- the id of the document of a row
 abbrev pub id_of : Row → List ℕ
 id_of r = bytes (column r 2)
 
 -- the row is one of this database
-abbrev pub is_in : ℤ → Row → Bool
-is_in db r = int_eq (db_of r) db
+abbrev pub is_row_of_database : ℤ → Row → Bool
+is_row_of_database db r = int_eq (db_of r) db
 
 -- the row is one of this document
-abbrev pub is_of : ℤ → List ℕ → Row → Bool
-is_of db id r = is_in db r && bytes_eq (id_of r) id
+abbrev pub is_row_of_document : ℤ → List ℕ → Row → Bool
+is_row_of_document db id r = is_row_of_database db r && bytes_eq (id_of r) id
 
 -- databases: the number stands in the place of the rowid
 abbrev pub database_cells : List ℕ → List ℕ → ℤ → Row
@@ -125,15 +118,15 @@ security_text r = bytes (column r 3)
 
 -- the security object of the row of a database
 abbrev pub security_of : Row → json.Value
-security_of r = json_in (column r 3)
+security_of r = json_in_cell (column r 3)
 
 -- the sequence of the row of a database
-abbrev pub length_of : Row → ℕ
-length_of r = count_in (column r 4)
+abbrev pub sequence_of_database : Row → ℕ
+sequence_of_database r = count_in_cell (column r 4)
 
 -- the row of a database with another security object, or another sequence
 abbrev pub row_with_security : List ℕ → Row → Row
-row_with_security text r = database_row (number_of r) (name_of r) text (pos (length_of r))
+row_with_security text r = database_row (number_of r) (name_of r) text (pos (sequence_of_database r))
 
 abbrev pub row_at_sequence : ℤ → Row → Row
 row_at_sequence sequence r = database_row (number_of r) (name_of r) (security_text r) sequence
@@ -167,27 +160,27 @@ row_with_winner sequence winner deleted r = document_row (number_of r) (db_of r)
 
 -- the rows, where the document of this id has another
 abbrev pub rows_with_winner : ℤ → List ℕ → ℤ → List ℕ → Bool → List Row → List Row
-rows_with_winner db id sequence winner deleted rows = map (λ r. if is_of db id r then row_with_winner sequence winner deleted r else r) rows
+rows_with_winner db id sequence winner deleted rows = map (λ r. if is_row_of_document db id r then row_with_winner sequence winner deleted r else r) rows
 
 -- the rows with that of this document: in the place of the one of its id, and behind all others where there is none
 abbrev pub rows_with_document : ℤ → List ℕ → ℤ → List ℕ → Bool → List Row → List Row
 rows_with_document db id sequence winner deleted rows =
-    if list_any (is_of db id) rows then rows_with_winner db id sequence winner deleted rows else with_cells rows (document_cells db id sequence winner deleted)
+    if list_any (is_row_of_document db id) rows then rows_with_winner db id sequence winner deleted rows else with_cells rows (document_cells db id sequence winner deleted)
 
 -- what a query shows of such a row: the sequence, the winner and whether it is deleted
 abbrev pub shown_document : Row → Row
 shown_document r = column r 3 ∷ column r 4 ∷ column r 5 ∷ []
 
 -- the sequence of the row of a document
-abbrev pub sequence_of : Row → ℕ
-sequence_of r = count_in (column r 3)
+abbrev pub sequence_of_row : Row → ℕ
+sequence_of_row r = count_in_cell (column r 3)
 
 -- documents go by the bytes of their ids, or by their sequences
 abbrev pub by_id : Row → Row → Ordering
 by_id a b = slice_cmp nat_cmp (id_of a) (id_of b)
 
 abbrev pub by_sequence : Row → Row → Ordering
-by_sequence a b = nat_cmp (sequence_of a) (sequence_of b)
+by_sequence a b = nat_cmp (sequence_of_row a) (sequence_of_row b)
 
 -- what a list of documents shows: the id too
 abbrev pub listed_document : Row → Row
@@ -198,8 +191,8 @@ abbrev pub winner_text : Row → List ℕ
 winner_text r = bytes (column r 4)
 
 -- the winner of the row of a document is deleted
-abbrev pub is_gone : Row → Bool
-is_gone r = is_set (column r 5)
+abbrev pub is_gone_row : Row → Bool
+is_gone_row r = is_set (column r 5)
 
 -- revisions: of the parent there is the hash, since its number is one less
 abbrev pub parent_cell : Option Revision → Value
@@ -217,9 +210,9 @@ is_held None = false
 is_held (Some held) = true
 
 -- what is held is deleted
-abbrev pub is_marked : Option Held → Bool
-is_marked None = false
-is_marked (Some held) = held.deleted
+abbrev pub is_held_deleted : Option Held → Bool
+is_held_deleted None = false
+is_held_deleted (Some held) = held.deleted
 
 -- what a query shows of such a row: all but the database and the id
 abbrev pub shown_revision : Row → Row
@@ -228,36 +221,33 @@ shown_revision r = column r 3 ∷ column r 4 ∷ column r 5 ∷ column r 6 ∷ c
 -- the cells as they are handed in: the parent's hash, and the body's text, where they are there
 abbrev pub given_cells : ℤ → List ℕ → ℕ → List ℕ → Value → Bool → Bool → Value → Row
 given_cells db id n hash parent held deleted body =
-    Int db ∷ Blob id ∷ count n ∷ Text hash ∷ parent ∷ flag held ∷ flag deleted ∷ body ∷ []
+    Int db ∷ Blob id ∷ count_cell n ∷ Text hash ∷ parent ∷ flag held ∷ flag deleted ∷ body ∷ []
 
 -- its cells behind the number
 abbrev pub revision_cells : ℤ → List ℕ → Revision → Entry → Row
 revision_cells db id r e =
-    given_cells db id r.number r.hash (parent_cell e.parent) (is_held e.held) (is_marked e.held) (body_cell e.held)
+    given_cells db id r.number r.hash (parent_cell e.parent) (is_held e.held) (is_held_deleted e.held) (body_cell e.held)
 
 -- the row of a revision: its number, that of its database, its document, the revision, its parent, and what is held
 abbrev pub revision_row : ℤ → ℤ → List ℕ → Revision → Entry → Row
 revision_row number db id r e = Int number ∷ revision_cells db id r e
 
 -- the revision of a row
-abbrev pub revision_of : Row → Revision
-revision_of r = record { number = count_in (column r 3); hash = bytes (column r 4) }
+abbrev pub revision_of_row : Row → Revision
+revision_of_row r = record { number = count_in_cell (column r 3); hash = bytes (column r 4) }
 
 -- the parent by its hash, one number below
 abbrev pub parent_in : ℕ → Value → Option Revision
-parent_in n Null = None
-parent_in n (Int m) = None
-parent_in n (Real x) = None
 parent_in n (Text hash) = Some (record { number = n - 1; hash = hash })
-parent_in n (Blob b) = None
+parent_in n v = None
 
 -- what is held of the revision of a row, and whether it is deleted
 abbrev pub held_in : Row → Option (Bool × json.Value)
-held_in r = if is_set (column r 6) then Some (is_set (column r 7), json_in (column r 8)) else None
+held_in r = if is_set (column r 6) then Some (is_set (column r 7), json_in_cell (column r 8)) else None
 
 -- the parent of the revision of a row, and what is held of it
 abbrev pub entry_of : Row → Entry
-entry_of r = row_of (parent_in (count_in (column r 3)) (column r 5)) (held_in r)
+entry_of r = entry_of_row (parent_in (count_in_cell (column r 3)) (column r 5)) (held_in r)
 
 -- the same without the body
 abbrev pub shown_outline : Row → Row
@@ -269,11 +259,11 @@ shown_hash r = column r 3 ∷ column r 4 ∷ []
 
 -- the row is that of this revision of the document
 abbrev pub is_revision_of : ℤ → List ℕ → Revision → Row → Bool
-is_revision_of db id rev r = is_of db id r && eq_by_cmp revision_cmp rev (revision_of r)
+is_revision_of db id rev r = is_row_of_document db id r && eq_by_cmp revision_cmp rev (revision_of_row r)
 
 -- local documents
 abbrev pub local_cells : ℤ → List ℕ → ℕ → List ℕ → Row
-local_cells db id n body = Int db ∷ Blob id ∷ count n ∷ Text body ∷ []
+local_cells db id n body = Int db ∷ Blob id ∷ count_cell n ∷ Text body ∷ []
 
 -- the row of a local document: its number, that of its database, its id, its own number, its body
 abbrev pub local_row : ℤ → ℤ → List ℕ → ℕ → List ℕ → Row
@@ -285,36 +275,36 @@ shown_local r = column r 3 ∷ column r 4 ∷ []
 
 -- the local document of a row
 abbrev pub local_of : Row → LocalDocument
-local_of r = record { number = count_in (column r 3); body = json_in (column r 4) }
+local_of r = record { number = count_in_cell (column r 3); body = json_in_cell (column r 4) }
 
 -- ---- the databases that they hold
 
 -- the local documents of a database
 abbrev pub locals_in : List Row → ℤ → TextMap LocalDocument
-locals_in rows db = from_entries (map (λ r. (id_of r, local_of r)) (filter (is_in db) rows))
+locals_in rows db = from_entries (map (λ r. (id_of r, local_of r)) (filter (is_row_of_database db) rows))
 
 -- the history of a document: each of its rows is a known revision
-abbrev pub history_in : List Row → ℤ → List ℕ → HistoryContent
-history_in rows db id = from_entries (map (λ r. (revision_of r, entry_of r)) (filter (is_of db id) rows))
+abbrev pub history_in_rows : List Row → ℤ → List ℕ → HistoryContent
+history_in_rows rows db id = from_entries (map (λ r. (revision_of_row r, entry_of r)) (filter (is_row_of_document db id) rows))
 
 -- the document of a row, whose revisions are among these rows
-abbrev pub document_of : List Row → Row → Document
-document_of revs r = record { sequence = sequence_of r; history = history_in revs (db_of r) (id_of r) }
+abbrev pub document_of_row : List Row → Row → Document
+document_of_row revs r = record { sequence = sequence_of_row r; history = history_in_rows revs (db_of r) (id_of r) }
 
 -- the documents of a database
-abbrev pub documents_in : List Row → List Row → ℤ → TextMap Document
-documents_in docs revs db = from_entries (map (λ r. (id_of r, document_of revs r)) (filter (is_in db) docs))
+abbrev pub documents_in_rows : List Row → List Row → ℤ → TextMap Document
+documents_in_rows docs revs db = from_entries (map (λ r. (id_of r, document_of_row revs r)) (filter (is_row_of_database db) docs))
 
 -- the database of a row
-abbrev pub database_of : Trees → Row → Database
-database_of trees r =
+abbrev pub database_of_row : Trees → Row → Database
+database_of_row trees r =
     record {
-      length = length_of r;
+      length = sequence_of_database r;
       security = security_of r;
       locals = locals_in (trees locals_tree) (number_of r);
-      documents = documents_in (trees docs_tree) (trees revs_tree) (number_of r);
+      documents = documents_in_rows (trees docs_tree) (trees revs_tree) (number_of r);
     }
 
 -- all databases, by name
 abbrev pub contents_in : Trees → Contents
-contents_in trees = from_entries (map (λ r. (name_of r, database_of trees r)) (trees dbs_tree))
+contents_in trees = from_entries (map (λ r. (name_of r, database_of_row trees r)) (trees dbs_tree))

@@ -8,7 +8,7 @@ use Rattle.store.specs.declared.local_document.LocalDocument.{LocalDocument}
 use Rattle.sqlite_value.specs.declared.value.Value.{Value}
 use Rattle.sqlite_value.specs.declared.value.Value.TheVariants.{Null, Int, Text}
 use Rattle.sqlite_value.specs.Order.{Row, bytes, column}
-use Rattle.tables.specs.Rows.{count_in, is_set, json_in, parent_in}
+use Rattle.tables.specs.Rows.{count_in_cell, is_set, json_in_cell, parent_in}
 
 -- a number of 32 bits
 abbrev pub IsSmall : Value → Type 0
@@ -31,7 +31,7 @@ SpellsJson v = (text : List ℕ) × (value : json.Value) × (v ≡ Text text) ×
 
 -- the local document of such a row
 abbrev pub local_shown : Row → LocalDocument
-local_shown s = record { number = count_in (column s 0); body = json_in (column s 1) }
+local_shown s = record { number = count_in_cell (column s 0); body = json_in_cell (column s 1) }
 
 pub record IsShownLocal (s : Row) : Type 0 where
   pub width : length s ≡ 2
@@ -65,13 +65,13 @@ abbrev pub SpellsParentOf : ℕ → Value → Type 0
 SpellsParentOf number v = (v ≡ Null) ⊎ SpellsHashOf (number - 1) v
 
 abbrev pub revision_shown : Row → Revision
-revision_shown s = record { number = count_in (column s 0); hash = bytes (column s 1) }
+revision_shown s = record { number = count_in_cell (column s 0); hash = bytes (column s 1) }
 
 abbrev pub parent_shown : Row → Option Revision
-parent_shown s = parent_in (count_in (column s 0)) (column s 2)
+parent_shown s = parent_in (count_in_cell (column s 0)) (column s 2)
 
 abbrev pub held_shown : Row → Option (Bool × json.Value)
-held_shown s = if is_set (column s 3) then Some (is_set (column s 4), json_in (column s 5)) else None
+held_shown s = if is_set (column s 3) then Some (is_set (column s 4), json_in_cell (column s 5)) else None
 
 -- nothing is held, or a mark and a body are
 pub record ShowsHeld (s : Row) : Type 0 where
@@ -82,8 +82,8 @@ pub record ShowsHeld (s : Row) : Type 0 where
 pub record IsShownRevision (s : Row) : Type 0 where
   pub width : length s ≡ 6
   pub number : IsSmall (column s 0)
-  pub hash : SpellsHashOf (count_in (column s 0)) (column s 1)
-  pub parent : SpellsParentOf (count_in (column s 0)) (column s 2)
+  pub hash : SpellsHashOf (count_in_cell (column s 0)) (column s 1)
+  pub parent : SpellsParentOf (count_in_cell (column s 0)) (column s 2)
   pub held : ShowsHeld s
 
 -- ---- the same without the body
@@ -99,8 +99,8 @@ pub record ShowsMark (s : Row) : Type 0 where
 pub record IsShownOutline (s : Row) : Type 0 where
   pub width : length s ≡ 5
   pub number : IsSmall (column s 0)
-  pub hash : SpellsHashOf (count_in (column s 0)) (column s 1)
-  pub parent : SpellsParentOf (count_in (column s 0)) (column s 2)
+  pub hash : SpellsHashOf (count_in_cell (column s 0)) (column s 1)
+  pub parent : SpellsParentOf (count_in_cell (column s 0)) (column s 2)
   pub held : ShowsMark s
 
 -- ---- the number and the hash alone
@@ -108,4 +108,4 @@ pub record IsShownOutline (s : Row) : Type 0 where
 pub record IsShownHash (s : Row) : Type 0 where
   pub width : length s ≡ 2
   pub number : IsSmall (column s 0)
-  pub hash : SpellsHashOf (count_in (column s 0)) (column s 1)
+  pub hash : SpellsHashOf (count_in_cell (column s 0)) (column s 1)

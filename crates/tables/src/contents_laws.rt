@@ -15,8 +15,8 @@ ghost use Rattle.tree.specs.DocumentId.{is_document_id};
 ghost use Rattle.sqlite.specs.Effect as sqlite;
 ghost use Rattle.sqlite_trees.specs.Tree.{Trees};
 ghost use Rattle.sqlite_value.specs.Order.{Row};
-ghost use Rattle.tables.specs.Layout.{IsLaid, IsStore};
-ghost use Rattle.tables.specs.Rows.{contents_in, database_cells, database_of, has_number, is_in, is_named, is_of};
+ghost use Rattle.tables.specs.Layout.{IsWellFormed, IsStore};
+ghost use Rattle.tables.specs.Rows.{contents_in, database_cells, database_of_row, has_number, is_row_of_database, is_named, is_row_of_document};
 ghost use Rattle.tables.specs.Rows.{local_cells, number_of, rows_with_security, with_cells};
 ghost use Rattle.tables.specs.Schema.{dbs_tree, docs_tree, locals_tree, revs_tree};
 ghost use Rattle.tables.specs.Steps.{Changes};
@@ -24,8 +24,8 @@ ghost use Rattle.tables.specs.Steps.{Changes};
 /// The database of a name is that of the row of this name, and at most one row has it.
 pub fn database_found()
     ensures found { (trees : Trees) (name : List ℕ)
-        → finite.get (contents_in trees) name ≡ option_map (database_of trees) (slice_get (filter (is_named name) (trees dbs_tree)) 0) }
-    ensures one { (trees : Trees) (name : List ℕ) → IsLaid trees
+        → finite.get (contents_in trees) name ≡ option_map (database_of_row trees) (slice_get (filter (is_named name) (trees dbs_tree)) 0) }
+    ensures one { (trees : Trees) (name : List ℕ) → IsWellFormed trees
         → (filter (is_named name) (trees dbs_tree) ≡ []) ⊎ ((d : Row) × (filter (is_named name) (trees dbs_tree) ≡ d ∷ [])) }
 {}
 
@@ -51,7 +51,7 @@ pub fn another_local()
     ensures { (a b c : sqlite.Database) (name : List ℕ) (d : Row) (id : List ℕ) (document : LocalDocument) → IsStore a
         → slice_get (filter (is_named name) (a.trees dbs_tree)) 0 ≡ Some d
         → IsTrue (is_document_id id) → IsBody document.body → IsLawful document.body → document.number < 2 ^ 32
-        → Changes locals_tree (filter (λ r. not (is_of (number_of d) id r)) (a.trees locals_tree)) a b
+        → Changes locals_tree (filter (λ r. not (is_row_of_document (number_of d) id r)) (a.trees locals_tree)) a b
         → Changes locals_tree (with_cells (b.trees locals_tree) (local_cells (number_of d) id document.number (canonical document.body))) b c
         → IsStore c × (option_map (λ db. finite.insert (contents_in a.trees) name (store.with_local db id document))
         (finite.get (contents_in a.trees) name) ≡ Some (contents_in c.trees)) }
@@ -61,9 +61,9 @@ pub fn another_local()
 pub fn fewer_databases()
     ensures { (a b c d e : sqlite.Database) (name : List ℕ) (w : Row) → IsStore a
         → slice_get (filter (is_named name) (a.trees dbs_tree)) 0 ≡ Some w
-        → Changes docs_tree (filter (λ r. not (is_in (number_of w) r)) (a.trees docs_tree)) a b
-        → Changes revs_tree (filter (λ r. not (is_in (number_of w) r)) (b.trees revs_tree)) b c
-        → Changes locals_tree (filter (λ r. not (is_in (number_of w) r)) (c.trees locals_tree)) c d
+        → Changes docs_tree (filter (λ r. not (is_row_of_database (number_of w) r)) (a.trees docs_tree)) a b
+        → Changes revs_tree (filter (λ r. not (is_row_of_database (number_of w) r)) (b.trees revs_tree)) b c
+        → Changes locals_tree (filter (λ r. not (is_row_of_database (number_of w) r)) (c.trees locals_tree)) c d
         → Changes dbs_tree (filter (λ r. not (has_number (number_of w) r)) (d.trees dbs_tree)) d e
         → IsStore e × (contents_in e.trees ≡ finite.remove (contents_in a.trees) name) }
 {}

@@ -6,7 +6,7 @@ ghost use Rattle.sqlite.specs.State.{HasCleanDisk};
 ghost use Rattle.tables.specs.Schema as tables;
 ghost use Rattle.tables.specs.Calls.{Alters, Proceeds, Stays};
 ghost use Rattle.tables.specs.Layout.{AreNumbered, IsEmpty, IsNew};
-ghost use Rattle.tables.specs.Rows.{count, with_cells};
+ghost use Rattle.tables.specs.Rows.{count_cell, with_cells};
 ghost use Rattle.tables.specs.Schema.{meta_tree};
 
 use crate::statement::change;
@@ -27,7 +27,7 @@ pub fn create_tables<S: Alter>(tx: &mut Transaction<'_, S>) -> Result<(), Error>
 /// Writes the version of the layout.
 pub(crate) fn insert_version<S: Alter>(tx: &mut Transaction<'_, S>) -> Result<(), Error>
     ensures same_reference { tx.new.conn.ghost_name ≡ tx.old.conn.ghost_name }
-    ensures alters { Alters S.Store meta_tree AreNumbered (λ rows. with_cells rows (count 2 ∷ [])) tx.old.conn.now tx.new.conn.now result }
+    ensures alters { Alters S.Store meta_tree AreNumbered (λ rows. with_cells rows (count_cell 2 ∷ [])) tx.old.conn.now tx.new.conn.now result }
 {
     change(tx, "INSERT INTO meta (version) VALUES (2)", &[])
 }

@@ -5,7 +5,7 @@ ghost use Rattle.couch_json.specs.View.{view};
 ghost use Rattle.sqlite_value.specs.Order.{bytes, column};
 ghost use Rattle.sqlite_value.specs.declared.value.Value.TheVariants.{Text};
 ghost use Rattle.tree.specs.Revision.{revision_read, text_of};
-ghost use Rattle.tables.specs.Rows.{count_in, json_in, parent_in, whole_in};
+ghost use Rattle.tables.specs.Rows.{count_in_cell, json_in_cell, parent_in, whole_in_cell};
 ghost use Rattle.tables.specs.Listings.{IsListedDocument, SpellsId, listed_id, listed_mark, listed_sequence, listed_winner};
 ghost use Rattle.tables.specs.Shown.{IsCount, IsShownDatabase, IsShownHash, IsShownLocal, IsShownOutline, IsShownRevision, IsSmall};
 ghost use Rattle.tables.specs.Shown.{IsWhole, ShowsHeld, ShowsMark, SpellsHash, SpellsHashOf, SpellsJson, SpellsParentOf, SpellsRevision};
@@ -79,7 +79,7 @@ pub struct FoundDatabase {
 
 /// Reads the whole number in a cell.
 pub fn whole_at(row: &Row, at: usize) -> Result<i64, RowFault>
-    ensures ok { IfOk result (λ n. n ≡ whole_in (column row.now at)) }
+    ensures ok { IfOk result (λ n. n ≡ whole_in_cell (column row.now at)) }
     ensures damaged { result ≡ Err RowFault.Damaged → at < length row.now → ¬ (IsWhole (column row.now at)) }
 {
     match row.get::<i64>(at) {
@@ -90,7 +90,7 @@ pub fn whole_at(row: &Row, at: usize) -> Result<i64, RowFault>
 }
 
 fn count_at(row: &Row, at: usize) -> Result<u64, RowFault>
-    ensures ok { IfOk result (λ n. n ≡ count_in (column row.now at)) }
+    ensures ok { IfOk result (λ n. n ≡ count_in_cell (column row.now at)) }
     ensures damaged { result ≡ Err RowFault.Damaged → at < length row.now → ¬ (IsCount (column row.now at)) }
 {
     match row.get::<u64>(at) {
@@ -133,7 +133,7 @@ pub fn id_at(alloc: Global, row: &Row, at: usize) -> Result<DocId, RowFault>
 }
 
 fn number_at(row: &Row, at: usize) -> Result<u32, RowFault>
-    ensures ok { IfOk result (λ n. n ≡ count_in (column row.now at)) }
+    ensures ok { IfOk result (λ n. n ≡ count_in_cell (column row.now at)) }
     ensures damaged { result ≡ Err RowFault.Damaged → at < length row.now → ¬ (IsSmall (column row.now at)) }
 {
     match row.get::<u32>(at) {
@@ -145,7 +145,7 @@ fn number_at(row: &Row, at: usize) -> Result<u32, RowFault>
 
 /// Reads the JSON value whose text is in a cell.
 pub fn json_at(alloc: Global, row: &Row, at: usize) -> Result<Json, RowFault>
-    ensures ok { IfOk result (λ json. view json ≡ json_in (column row.now at)) }
+    ensures ok { IfOk result (λ json. view json ≡ json_in_cell (column row.now at)) }
     ensures damaged { result ≡ Err RowFault.Damaged → at < length row.now → ¬ (SpellsJson (column row.now at)) }
 {
     let Ok(ValueRef::Text(text)) = row.get_ref(at) else {
@@ -283,9 +283,9 @@ pub fn read_listed_document(alloc: Global, row: &Row) -> Result<ListedDocument, 
 
 /// Reads what a row of `database_rows` shows.
 pub fn read_database(alloc: Global, row: &Row) -> Result<FoundDatabase, RowFault>
-    ensures number { IfOk result (λ d. d.number ≡ whole_in (column row.now 0)) }
-    ensures security { IfOk result (λ d. view d.security ≡ json_in (column row.now 1)) }
-    ensures sequence { IfOk result (λ d. d.sequence ≡ count_in (column row.now 2)) }
+    ensures number { IfOk result (λ d. d.number ≡ whole_in_cell (column row.now 0)) }
+    ensures security { IfOk result (λ d. view d.security ≡ json_in_cell (column row.now 1)) }
+    ensures sequence { IfOk result (λ d. d.sequence ≡ count_in_cell (column row.now 2)) }
     ensures damaged { result ≡ Err RowFault.Damaged → ¬ (IsShownDatabase row.now) }
 {
     let number = whole_at(row, 0)?;

@@ -7,7 +7,7 @@ ghost use Rattle.sqlite_keyed.specs.Lists.{sort_by};
 ghost use Rattle.tables.specs.Calls.{Alters, Reads, ShowsDocument};
 ghost use Rattle.tables.specs.Layout.{AreDocumentRows, AreKeyed, IsStore};
 ghost use Rattle.tables.specs.Listings.{comes_after, first_rows, live_range, marked_count, shown_count};
-ghost use Rattle.tables.specs.Rows.{by_sequence, is_in, is_of, listed_document, document_cells, rows_with_winner, with_cells};
+ghost use Rattle.tables.specs.Rows.{by_sequence, is_row_of_database, is_row_of_document, listed_document, document_cells, rows_with_winner, with_cells};
 ghost use Rattle.tables.specs.Schema.{docs_tree};
 
 use crate::statement::{change, query};
@@ -56,7 +56,7 @@ pub fn advance_document<S: Alter>(
 /// Takes out the rows of all documents of a database.
 pub fn clear_documents<S: Alter>(tx: &mut Transaction<'_, S>, db: &i64) -> Result<(), Error>
     ensures same_reference { tx.new.conn.ghost_name ≡ tx.old.conn.ghost_name }
-    ensures alters { Alters S.Store docs_tree AreKeyed (λ rows. filter (λ r. not (is_in db.now r)) rows) tx.old.conn.now tx.new.conn.now result }
+    ensures alters { Alters S.Store docs_tree AreKeyed (λ rows. filter (λ r. not (is_row_of_database db.now r)) rows) tx.old.conn.now tx.new.conn.now result }
 {
     change(tx, "DELETE FROM docs WHERE db = ?1", params![db])
 }
@@ -65,7 +65,7 @@ pub fn clear_documents<S: Alter>(tx: &mut Transaction<'_, S>, db: &i64) -> Resul
 /// winner and whether that is deleted.
 pub fn rows_by_sequence<S: Alter>(conn: &mut Connection<S>, db: &i64) -> Result<Vec<Row>, Error>
     ensures { Reads S.Store IsStore conn.old conn.new
-        (λ trees rows. rows.items ≡ map listed_document (sort_by by_sequence (filter (is_in db.now) (trees docs_tree)))) result }
+        (λ trees rows. rows.items ≡ map listed_document (sort_by by_sequence (filter (is_row_of_database db.now) (trees docs_tree)))) result }
 {
     query(
         conn,
@@ -81,7 +81,7 @@ pub fn document_rows<S: Alter>(
     id: &[u8],
 ) -> Result<Vec<Row>, Error>
     ensures reads { Reads S.Store IsStore conn.old conn.new
-        (λ trees rows. rows.items ≡ map listed_document (filter (is_of db.now id.now) (trees docs_tree))) result }
+        (λ trees rows. rows.items ≡ map listed_document (filter (is_row_of_document db.now id.now) (trees docs_tree))) result }
     ensures shown { HasCleanDisk (state S.Store conn.new) → IfOk result (λ rows. ShowsDocument S.Store db.now id.now conn.old conn.new rows.items) }
 {
     query(
@@ -160,7 +160,7 @@ pub fn rows_after<S: Alter>(
 ) -> Result<Vec<Row>, Error>
     ensures { Reads S.Store IsStore conn.old conn.new
         (λ trees rows. rows.items ≡ first_rows limit.now
-        (filter (comes_after sequence.now) (map listed_document (sort_by by_sequence (filter (is_in db.now) (trees docs_tree)))))) result }
+        (filter (comes_after sequence.now) (map listed_document (sort_by by_sequence (filter (is_row_of_database db.now) (trees docs_tree)))))) result }
 {
     query(
         conn,

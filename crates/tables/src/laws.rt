@@ -8,7 +8,7 @@ ghost use Rattle.sqlite_trees.specs.Tree.{Trees};
 ghost use Rattle.store.specs.Database.{Database, history_at};
 ghost use Rattle.tree.specs.History.{is_known};
 ghost use Rattle.tree.specs.Revision.{Revision, is_revision};
-ghost use Rattle.tables.specs.Layout.{IsFirstStore, IsLaid, IsNew, IsStore};
+ghost use Rattle.tables.specs.Layout.{IsFirstStore, IsWellFormed, IsNew, IsStore};
 ghost use Rattle.tables.specs.Presence.{has_all, version_in};
 ghost use Rattle.tables.specs.Rows.{contents_in, shown_database, shown_hash, shown_local, shown_outline, shown_revision};
 ghost use Rattle.tables.specs.Schema as tables;
@@ -32,16 +32,16 @@ pub fn tables_of_a_store()
 
 /// No reader of a row finds a row damaged where the tables are laid out.
 pub fn rows_of_a_store()
-    ensures databases { (trees : Trees) → IsLaid trees → AllByRecursion (λ r. IsShownDatabase (shown_database r)) (trees dbs_tree) }
-    ensures revisions { (trees : Trees) → IsLaid trees → AllByRecursion (λ r. IsShownRevision (shown_revision r)) (trees revs_tree) }
-    ensures outlines { (trees : Trees) → IsLaid trees → AllByRecursion (λ r. IsShownOutline (shown_outline r)) (trees revs_tree) }
-    ensures hashes { (trees : Trees) → IsLaid trees → AllByRecursion (λ r. IsShownHash (shown_hash r)) (trees revs_tree) }
-    ensures locals { (trees : Trees) → IsLaid trees → AllByRecursion (λ r. IsShownLocal (shown_local r)) (trees locals_tree) }
+    ensures databases { (trees : Trees) → IsWellFormed trees → AllByRecursion (λ r. IsShownDatabase (shown_database r)) (trees dbs_tree) }
+    ensures revisions { (trees : Trees) → IsWellFormed trees → AllByRecursion (λ r. IsShownRevision (shown_revision r)) (trees revs_tree) }
+    ensures outlines { (trees : Trees) → IsWellFormed trees → AllByRecursion (λ r. IsShownOutline (shown_outline r)) (trees revs_tree) }
+    ensures hashes { (trees : Trees) → IsWellFormed trees → AllByRecursion (λ r. IsShownHash (shown_hash r)) (trees revs_tree) }
+    ensures locals { (trees : Trees) → IsWellFormed trees → AllByRecursion (λ r. IsShownLocal (shown_local r)) (trees locals_tree) }
 {}
 
 /// Each revision that a database knows is a revision where the tables are laid out: it can be written as
 /// text, and is read back from it.
 pub fn revisions_of_a_store()
-    ensures { (trees : Trees) → IsLaid trees → (name id : List ℕ) (db : Database) (r : Revision) → get (contents_in trees) name ≡ Some db
+    ensures { (trees : Trees) → IsWellFormed trees → (name id : List ℕ) (db : Database) (r : Revision) → get (contents_in trees) name ≡ Some db
         → IsTrue (is_known (history_at db id) r) → IsTrue (is_revision r) }
 {}

@@ -3,7 +3,7 @@
 ghost use Rattle.std.specs.Prelude.{◌≡◌, not, filter, map};
 ghost use Rattle.tables.specs.Calls.{Alters, Reads};
 ghost use Rattle.tables.specs.Layout.{AreKeyed, IsStore};
-ghost use Rattle.tables.specs.Rows.{is_in, is_of, shown_local, local_cells, with_cells};
+ghost use Rattle.tables.specs.Rows.{is_row_of_database, is_row_of_document, shown_local, local_cells, with_cells};
 ghost use Rattle.tables.specs.Schema.{locals_tree};
 
 use crate::statement::{change, query};
@@ -31,7 +31,8 @@ pub fn insert_local<S: Alter>(
 /// Takes out the row of the local document of this id.
 pub fn delete_local<S: Alter>(tx: &mut Transaction<'_, S>, db: &i64, id: &[u8]) -> Result<(), Error>
     ensures same_reference { tx.new.conn.ghost_name ≡ tx.old.conn.ghost_name }
-    ensures alters { Alters S.Store locals_tree AreKeyed (λ rows. filter (λ r. not (is_of db.now id.now r)) rows) tx.old.conn.now tx.new.conn.now result }
+    ensures alters { Alters S.Store locals_tree AreKeyed (λ rows. filter
+        (λ r. not (is_row_of_document db.now id.now r)) rows) tx.old.conn.now tx.new.conn.now result }
 {
     change(
         tx,
@@ -43,7 +44,7 @@ pub fn delete_local<S: Alter>(tx: &mut Transaction<'_, S>, db: &i64, id: &[u8]) 
 /// Takes out the rows of all local documents of a database.
 pub fn clear_locals<S: Alter>(tx: &mut Transaction<'_, S>, db: &i64) -> Result<(), Error>
     ensures same_reference { tx.new.conn.ghost_name ≡ tx.old.conn.ghost_name }
-    ensures alters { Alters S.Store locals_tree AreKeyed (λ rows. filter (λ r. not (is_in db.now r)) rows) tx.old.conn.now tx.new.conn.now result }
+    ensures alters { Alters S.Store locals_tree AreKeyed (λ rows. filter (λ r. not (is_row_of_database db.now r)) rows) tx.old.conn.now tx.new.conn.now result }
 {
     change(tx, "DELETE FROM locals WHERE db = ?1", params![db])
 }
@@ -54,7 +55,8 @@ pub fn local_rows<S: Alter>(
     db: &i64,
     id: &[u8],
 ) -> Result<Vec<Row>, Error>
-    ensures { Reads S.Store IsStore conn.old conn.new (λ trees rows. rows.items ≡ map shown_local (filter (is_of db.now id.now) (trees locals_tree))) result }
+    ensures { Reads S.Store IsStore conn.old conn.new (λ trees rows. rows.items
+        ≡ map shown_local (filter (is_row_of_document db.now id.now) (trees locals_tree))) result }
 {
     query(
         conn,

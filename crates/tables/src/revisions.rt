@@ -5,7 +5,7 @@ ghost use Rattle.sqlite.specs.Values.{or_null};
 ghost use Rattle.sqlite_value.specs.declared.value.Value.TheVariants.{Text};
 ghost use Rattle.tables.specs.Calls.{Alters, Reads};
 ghost use Rattle.tables.specs.Layout.{AreKeyed, IsStore};
-ghost use Rattle.tables.specs.Rows.{is_in, is_of, is_revision_of, shown_hash, shown_outline, shown_revision, given_cells, with_cells};
+ghost use Rattle.tables.specs.Rows.{is_row_of_database, is_row_of_document, is_revision_of, shown_hash, shown_outline, shown_revision, given_cells, with_cells};
 ghost use Rattle.tables.specs.Schema.{revs_tree};
 
 use crate::statement::{change, query};
@@ -39,7 +39,7 @@ pub fn insert_revision<S: Alter>(
 /// Takes out the rows of all revisions of a database.
 pub fn clear_revisions<S: Alter>(tx: &mut Transaction<'_, S>, db: &i64) -> Result<(), Error>
     ensures same_reference { tx.new.conn.ghost_name ≡ tx.old.conn.ghost_name }
-    ensures alters { Alters S.Store revs_tree AreKeyed (λ rows. filter (λ r. not (is_in db.now r)) rows) tx.old.conn.now tx.new.conn.now result }
+    ensures alters { Alters S.Store revs_tree AreKeyed (λ rows. filter (λ r. not (is_row_of_database db.now r)) rows) tx.old.conn.now tx.new.conn.now result }
 {
     change(tx, "DELETE FROM revs WHERE db = ?1", params![db])
 }
@@ -51,7 +51,7 @@ pub fn revision_rows<S: Alter>(
     id: &[u8],
 ) -> Result<Vec<Row>, Error>
     ensures { Reads S.Store IsStore conn.old conn.new
-        (λ trees rows. IsPermutation (map shown_revision (filter (is_of db.now id.now) (trees revs_tree))) rows.items) result }
+        (λ trees rows. IsPermutation (map shown_revision (filter (is_row_of_document db.now id.now) (trees revs_tree))) rows.items) result }
 {
     query(
         conn,
@@ -86,7 +86,7 @@ pub fn outline_rows<S: Alter>(
     id: &[u8],
 ) -> Result<Vec<Row>, Error>
     ensures { Reads S.Store IsStore conn.old conn.new
-        (λ trees rows. IsPermutation (map shown_outline (filter (is_of db.now id.now) (trees revs_tree))) rows.items) result }
+        (λ trees rows. IsPermutation (map shown_outline (filter (is_row_of_document db.now id.now) (trees revs_tree))) rows.items) result }
 {
     query(
         conn,
@@ -99,7 +99,7 @@ pub fn outline_rows<S: Alter>(
 /// some order. SQLite finds both in the table's key, so it reads no row of the table itself.
 pub fn hash_rows<S: Alter>(conn: &mut Connection<S>, db: &i64, id: &[u8]) -> Result<Vec<Row>, Error>
     ensures { Reads S.Store IsStore conn.old conn.new
-        (λ trees rows. IsPermutation (map shown_hash (filter (is_of db.now id.now) (trees revs_tree))) rows.items) result }
+        (λ trees rows. IsPermutation (map shown_hash (filter (is_row_of_document db.now id.now) (trees revs_tree))) rows.items) result }
 {
     query(
         conn,

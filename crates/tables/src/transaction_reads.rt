@@ -6,7 +6,7 @@ ghost use Rattle.sqlite.specs.State.{HasCleanDisk};
 ghost use Rattle.tables.specs.Calls.{ReadsInside, ShowsDocument};
 ghost use Rattle.tables.specs.Layout.{IsStore};
 ghost use Rattle.tables.specs.Listings.{has_id_between, named_document};
-ghost use Rattle.tables.specs.Rows.{is_of, is_revision_of, listed_document, shown_outline, shown_revision};
+ghost use Rattle.tables.specs.Rows.{is_row_of_document, is_revision_of, listed_document, shown_outline, shown_revision};
 ghost use Rattle.tables.specs.Schema.{docs_tree, revs_tree};
 
 use crate::statement::query_in;
@@ -20,7 +20,7 @@ pub fn revision_rows_in<S: Alter>(
 ) -> Result<Vec<Row>, Error>
     ensures same_reference { tx.new.conn.ghost_name ≡ tx.old.conn.ghost_name }
     ensures reads { ReadsInside S.Store IsStore tx.old.conn.now tx.new.conn.now
-        (λ trees rows. IsPermutation (map shown_revision (filter (is_of db.now id.now) (trees revs_tree))) rows.items) result }
+        (λ trees rows. IsPermutation (map shown_revision (filter (is_row_of_document db.now id.now) (trees revs_tree))) rows.items) result }
 {
     query_in(
         tx,
@@ -38,7 +38,7 @@ pub fn document_rows_in<S: Alter>(
 ) -> Result<Vec<Row>, Error>
     ensures same_reference { tx.new.conn.ghost_name ≡ tx.old.conn.ghost_name }
     ensures reads { ReadsInside S.Store IsStore tx.old.conn.now tx.new.conn.now
-        (λ trees rows. rows.items ≡ map listed_document (filter (is_of db.now id.now) (trees docs_tree))) result }
+        (λ trees rows. rows.items ≡ map listed_document (filter (is_row_of_document db.now id.now) (trees docs_tree))) result }
     ensures shown { HasCleanDisk (state S.Store tx.new.conn.now)
         → IfOk result (λ rows. ShowsDocument S.Store db.now id.now tx.old.conn.now tx.new.conn.now rows.items) }
 {

@@ -8,7 +8,7 @@ ghost use Rattle.store.specs.Contents.{AreAcceptable, IsAcceptable};
 ghost use Rattle.store.specs.Database.{Database, DocumentWrite, with_all, with_one};
 ghost use Rattle.tables.specs.Edits.{HasWritten, IsStorable, IsWritable, IsWrite, row_after};
 ghost use Rattle.tables.specs.Layout.{IsStore};
-ghost use Rattle.tables.specs.Rows.{contents_in, database_of, is_named, length_of, row_at_sequence};
+ghost use Rattle.tables.specs.Rows.{contents_in, database_of_row, is_named, sequence_of_database, row_at_sequence};
 ghost use Rattle.tables.specs.Schema.{dbs_tree};
 
 /// A write of a document makes the database with that write, and leaves the tables laid out; the
@@ -17,11 +17,11 @@ pub fn one_write()
     ensures store { (a e : sqlite.Database) (name : List ℕ) (r : Row) (w : DocumentWrite) → IsStore a → IsWritable a.trees name r w → IsWrite r w a e
         → IsStore e }
     ensures contents { (a e : sqlite.Database) (name : List ℕ) (r : Row) (w : DocumentWrite) → IsStore a → IsWritable a.trees name r w → IsWrite r w a e
-        → contents_in e.trees ≡ map.insert (contents_in a.trees) name (with_one (database_of a.trees r) w) }
+        → contents_in e.trees ≡ map.insert (contents_in a.trees) name (with_one (database_of_row a.trees r) w) }
     ensures row { (a e : sqlite.Database) (name : List ℕ) (r : Row) (w : DocumentWrite) → IsStore a → IsWritable a.trees name r w → IsWrite r w a e
-        → slice_get (filter (is_named name) (e.trees dbs_tree)) 0 ≡ Some (row_at_sequence (pos (length_of r + 1)) r) }
+        → slice_get (filter (is_named name) (e.trees dbs_tree)) 0 ≡ Some (row_at_sequence (pos (sequence_of_database r + 1)) r) }
     ensures database { (a e : sqlite.Database) (name : List ℕ) (r : Row) (w : DocumentWrite) → IsStore a → IsWritable a.trees name r w → IsWrite r w a e
-        → database_of e.trees (row_at_sequence (pos (length_of r + 1)) r) ≡ with_one (database_of a.trees r) w }
+        → database_of_row e.trees (row_at_sequence (pos (sequence_of_database r + 1)) r) ≡ with_one (database_of_row a.trees r) w }
 {}
 
 /// Writes that are done one after another are all of them in the database: none at first, and then
@@ -30,7 +30,8 @@ pub fn more_writes()
     ensures none { (a : sqlite.Database) (name : List ℕ) (r : Row) → IsStore a → slice_get (filter (is_named name) (a.trees dbs_tree)) 0 ≡ Some r
         → HasWritten [] name r a a }
     ensures one_more { (ws : List DocumentWrite) (w : DocumentWrite) (name : List ℕ) (r : Row) (a b c : sqlite.Database) → HasWritten ws name r a b
-        → IsAcceptable (with_all (database_of a.trees r) ws) w → IsStorable w → length_of r + length ws + 1 < 2 ^ 63 → IsWrite (row_after r (length ws)) w b c
+        → IsAcceptable (with_all (database_of_row a.trees r) ws) w → IsStorable w → sequence_of_database r + length ws + 1 < 2 ^ 63
+        → IsWrite (row_after r (length ws)) w b c
         → HasWritten (ws ++ w ∷ []) name r a c }
     ensures in_turn { (ws : List DocumentWrite) (db : Database) (w : DocumentWrite) (more : List DocumentWrite) → AreAcceptable db (ws ++ w ∷ more)
         → IsAcceptable (with_all db ws) w }

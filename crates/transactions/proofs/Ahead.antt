@@ -1,5 +1,5 @@
 -- Writes of a database that stands at the last of their sequences from the first of them on.
-use Rattle.transactions.proofs.Common.{Addition, AreDue, AreInserted, Bool, Changes, Database, Entry, HasWritten, IsLaid, IsLawfulAddition, IsStore, IsWrite, List, Revision, Row, Some, Trees, [], addition_of, additions, ap, arith, cond, contents_in, database_of, db_of, dbs_tree, docs_tree, false, filter, get_or, has_number, history_in, length, length-map, length-take, length_of, map, map-map, new_entries, number_of, pos, refl, revs_tree, row_after, rows_at_sequence, schema, slice_get, subst, suc, sym, take, true, writings_in, written_in, ℕ, ℤ, ◌+◌, ◌<◌, ◌^◌, ◌∙◌, ◌∷◌, ◌≡◌, ◌≢◌}
+use Rattle.transactions.proofs.Common.{Addition, AreDue, AreInserted, Bool, Changes, Database, Entry, HasWritten, IsWellFormed, IsLawfulAddition, IsStore, IsWrite, List, Revision, Row, Some, Trees, [], addition_of, additions, ap, arith, cond, contents_in, database_of_row, db_of, dbs_tree, docs_tree, false, filter, get_or, has_number, history_in_rows, length, length-map, length-take, sequence_of_database, map, map-map, new_entries, number_of, pos, refl, revs_tree, row_after, rows_at_sequence, schema, slice_get, subst, suc, sym, take, true, writings_in, written_in, ℕ, ℤ, ◌+◌, ◌<◌, ◌^◌, ◌∙◌, ◌∷◌, ◌≡◌, ◌≢◌}
 use Rattle.std.specs.FinMap as finite
 use Rattle.std.specs.Prelude.{◌≤◌, eqb, if◌then◌else◌}
 use Rattle.std.proofs.Math.Logic.{∥∥₁_map}
@@ -10,7 +10,7 @@ use Rattle.index.specs.Rows.{is_at_home}
 use Rattle.index.specs.Shown.{declared_at}
 use Rattle.store.specs.Database as store
 use Rattle.store.specs.Database.{DocumentWrite}
-use Rattle.store.specs.Lawful.{AreLawful, IsLawful}
+use Rattle.store.specs.Lawful.{AreLawful, IsLawfulDatabase}
 use Rattle.store.specs.declared.write.Write.{Write}
 use Rattle.tables.proofs.Changed.{all_changed, contents_changed, longer, names_changed, number_stays, numbered_changed}
 use Rattle.tables.proofs.Common.{IsDatabaseNumber, IsDatabaseRow, IsDocumentRow, IsLocalRow, IsRevisionRow, database_row, eqb_tells, inl, inr, is_named, lawful_insert, locals_tree, map_same, name_of, row_at_sequence, security_text}
@@ -47,14 +47,14 @@ moved_twice n s t rows = map-map moved_to moved_from rows ∙ map_same (λ r. mo
 
 -- ---- the tables at a greater sequence
 
-lawful_longer : (db : store.Database) (n : ℕ) → db.length ≤ n → IsLawful db → IsLawful (record db { length = n })
+lawful_longer : (db : store.Database) (n : ℕ) → db.length ≤ n → IsLawfulDatabase db → IsLawfulDatabase (record db { length = n })
 lawful_longer db n low h = record {
   documents = h.documents;
   sequences = record { positive = h.sequences.positive; within = λ id d is. let own = h.sequences.within id d is in omega (arith, own, low); distinct = h.sequences.distinct };
   locals = h.locals;
 }
 
-module _ (trees : Trees) (h : IsLaid trees) (name : List ℕ) (d : Row) (is : slice_get (filter (is_named name) (trees dbs_tree)) 0 ≡ Some d) (end : ℕ) (grows : length_of d ≤ end) (room : end < 2 ^ 63) where
+module _ (trees : Trees) (h : IsWellFormed trees) (name : List ℕ) (d : Row) (is : slice_get (filter (is_named name) (trees dbs_tree)) 0 ≡ Some d) (end : ℕ) (grows : sequence_of_database d ≤ end) (room : end < 2 ^ 63) where
   abbrev change : Row → Row
   change = row_at_sequence (pos end)
 
@@ -62,7 +62,7 @@ module _ (trees : Trees) (h : IsLaid trees) (name : List ℕ) (d : Row) (is : sl
   moved = with_rows trees dbs_tree (rows_at_sequence (number_of d) (pos end) (trees dbs_tree))
 
   abbrev longer_database : store.Database
-  longer_database = record (database_of trees d) { length = end }
+  longer_database = record (database_of_row trees d) { length = end }
 
   moved_contents : contents_in moved ≡ finite.insert (contents_in trees) name longer_database
   moved_contents = contents_changed trees h name d is change (λ r. refl) (λ r. refl) moved longer_database refl refl (λ r out. refl)
@@ -88,7 +88,7 @@ module _ (trees : Trees) (h : IsLaid trees) (name : List ℕ) (d : Row) (is : sl
   local_still : (x : Row) → IsLocalRow trees x → IsLocalRow moved x
   local_still x k = record { is = k.is; there = number_still (db_of x) k.there; named = k.named; small = k.small; body = k.body }
 
-  moved_laid : IsLaid moved
+  moved_laid : IsWellFormed moved
   moved_laid = record {
     version = h.version;
     dbs_numbered = numbered_changed (number_of d) change (λ x. refl) (λ x. refl) (λ x. refl) (trees dbs_tree) h.dbs_numbered;
@@ -107,19 +107,19 @@ module _ (trees : Trees) (h : IsLaid trees) (name : List ℕ) (d : Row) (is : sl
     local_ids_apart = h.local_ids_apart;
     lawful = ∥∥₁_map h.lawful (λ l.
         subst AreLawful (sym moved_contents)
-        (lawful_insert (contents_in trees) name longer_database l (lawful_longer (database_of trees d) end grows (l name (database_of trees d) (database_there trees h name d is)))));
+        (lawful_insert (contents_in trees) name longer_database l (lawful_longer (database_of_row trees d) end grows (l name (database_of_row trees d) (database_there trees h name d is)))));
   }
 
 -- the tables of a database that stands ahead are a store
-pub ahead_store : (all before : List Addition) (name : List ℕ) (r : Row) (old now : Database) → IsAhead all before name r old now → length before ≤ length all → length_of r + length all < 2 ^ 63 → IsStore now
+pub ahead_store : (all before : List Addition) (name : List ℕ) (r : Row) (old now : Database) → IsAhead all before name r old now → length before ≤ length all → sequence_of_database r + length all < 2 ^ 63 → IsStore now
 ahead_store all before name r old now h low room =
     let v = with_databases h.back now in
-    let count = length-writings_in (database_of old.trees r) before in
-    let d = row_after r (length (writings_in (database_of old.trees r) before)) in
-    let grows : length_of d ≤ length_of r + length all = omega (arith, count, low) in
-    store_of (moved v.trees h.written.store.laid name d h.written.row (length_of r + length all) grows room) now h.written.store.schema_is
+    let count = length-writings_in (database_of_row old.trees r) before in
+    let d = row_after r (length (writings_in (database_of_row old.trees r) before)) in
+    let grows : sequence_of_database d ≤ sequence_of_database r + length all = omega (arith, count, low) in
+    store_of (moved v.trees h.written.store.laid name d h.written.row (sequence_of_database r + length all) grows room) now h.written.store.schema_is
     (record { meta = refl; dbs = h.ahead; docs = refl; revs = refl; locals = refl })
-    (moved_laid v.trees h.written.store.laid name d h.written.row (length_of r + length all) grows room)
+    (moved_laid v.trees h.written.store.laid name d h.written.row (sequence_of_database r + length all) grows room)
 
 -- ---- tables with other rows of databases
 
@@ -153,20 +153,20 @@ databases_moved rows now d = record {
 -- a write leaves the rows of databases
 pub placed_dbs : (db sequence : ℤ) (w : DocumentWrite) (a b : Database) → a.schema ≡ schema → IsPlacedWrite db sequence w a b → b.trees dbs_tree ≡ a.trees dbs_tree
 placed_dbs db sequence w a b is h =
-    let one = revisions_changed (new_entries (history_in (a.trees revs_tree) db w.id) w.write) db w.id a h.inserted h.revisions in
+    let one = revisions_changed (new_entries (history_in_rows (a.trees revs_tree) db w.id) w.write) db w.id a h.inserted h.revisions in
     (leaves docs_tree _ h.inserted b (one.schema ∙ is) h.places).dbs (omega arith) ∙ (leaves revs_tree _ a h.inserted is one).dbs (omega arith)
 
 -- it is a whole write of tables whose database stands at the sequence before it
-write_behind : (back : List Row) (r : Row) (w : DocumentWrite) (a b : Database) → IsPlacedWrite (number_of r) (pos (length_of r + 1)) w a b
-    → IsWrite r w (with_databases back a) (with_databases (rows_at_sequence (number_of r) (pos (length_of r + 1)) back) b)
+write_behind : (back : List Row) (r : Row) (w : DocumentWrite) (a b : Database) → IsPlacedWrite (number_of r) (pos (sequence_of_database r + 1)) w a b
+    → IsWrite r w (with_databases back a) (with_databases (rows_at_sequence (number_of r) (pos (sequence_of_database r + 1)) back) b)
 write_behind back r w a b h = record {
   inserted = with_databases back h.inserted;
   placed = with_databases back b;
   best = h.best;
-  revisions = inserted_behind back (new_entries (history_in (a.trees revs_tree) (number_of r) w.id) w.write) (number_of r) w.id a h.inserted h.revisions;
+  revisions = inserted_behind back (new_entries (history_in_rows (a.trees revs_tree) (number_of r) w.id) w.write) (number_of r) w.id a h.inserted h.revisions;
   best_is = h.best_is;
   places = changes_behind back docs_tree _ h.inserted b refl h.places;
-  advances = databases_moved back (rows_at_sequence (number_of r) (pos (length_of r + 1)) back) b;
+  advances = databases_moved back (rows_at_sequence (number_of r) (pos (sequence_of_database r + 1)) back) b;
 }
 
 -- tables with the same rows have the same writes
@@ -182,7 +182,7 @@ written_over ws name r a b c h is same = record {
 
 -- the sequence is moved, and no write is done
 pub first_ahead : (all : List Addition) (name : List ℕ) (r : Row) (old now : Database) → IsIndexedStore old → slice_get (filter (is_named name) (old.trees dbs_tree)) 0 ≡ Some r → AreAllIndexes [] (number_of r) old.trees
-    → Changes dbs_tree (rows_at_sequence (number_of r) (pos (length_of r + length all)) (old.trees dbs_tree)) old now → IsAhead all [] name r old now
+    → Changes dbs_tree (rows_at_sequence (number_of r) (pos (sequence_of_database r + length all)) (old.trees dbs_tree)) old now → IsAhead all [] name r old now
 first_ahead all name r old now was found every change =
     let left = leaves dbs_tree _ old now was.store.schema_is change in
     let back = old.trees dbs_tree in
@@ -201,8 +201,8 @@ pub start_ahead : (ws : List Write) (name : List ℕ) (db : ℤ) (sequence : ℕ
     → (due : AreDue (additions ws) name db sequence old.trees) → Changes dbs_tree (rows_at_sequence db last (old.trees dbs_tree)) old now → IsAhead (additions ws) [] name due.row old now
 start_ahead ws name db sequence last old now was every at due change =
     let all = additions ws in
-    let number : sequence + length ws ≡ length_of due.row + length all = omega (arith, due.counted, length-map ws addition_of) in
-    let to : ℤ = pos (length_of due.row + length all) in
+    let number : sequence + length ws ≡ sequence_of_database due.row + length all = omega (arith, due.counted, length-map ws addition_of) in
+    let to : ℤ = pos (sequence_of_database due.row + length all) in
     first_ahead all name due.row old now was due.first (subst (λ n. AreAllIndexes [] n old.trees) (sym due.numbered) every)
     (subst (λ n. Changes dbs_tree (rows_at_sequence n to (old.trees dbs_tree)) old now) (sym due.numbered)
     (subst (λ s. Changes dbs_tree (rows_at_sequence db s (old.trees dbs_tree)) old now) (at ∙ ap pos number) change))
@@ -216,10 +216,10 @@ still_store ws i name db sequence old mid lt room due h =
 
 -- the path of the next write has its place
 pub place_ahead : (ws : List Write) (i : ℕ) (w : Write) (name : List ℕ) (db : ℤ) (sequence : ℕ) (next : ℤ) (old mid : Database) → i < length ws → w ≡ get_or ws i w → sequence + length ws < 2 ^ 63 → next ≡ pos (sequence + i + 1)
-    → (due : AreDue (additions ws) name db sequence old.trees) → IsAhead (additions ws) (additions (take i ws)) name due.row old mid → HasPlaceFor (history_in (mid.trees revs_tree) db (addition_of w).id) (addition_of w)
+    → (due : AreDue (additions ws) name db sequence old.trees) → IsAhead (additions ws) (additions (take i ws)) name due.row old mid → HasPlaceFor (history_in_rows (mid.trees revs_tree) db (addition_of w).id) (addition_of w)
 place_ahead ws i w name db sequence next old mid lt is room at due h =
     let may = may_in_turn ws i w name db sequence next old (with_databases h.back mid) lt is room at due h.written in
-    subst (λ n. HasPlaceFor (history_in (mid.trees revs_tree) n (addition_of w).id) (addition_of w)) (sym may.numbered) may.placed
+    subst (λ n. HasPlaceFor (history_in_rows (mid.trees revs_tree) n (addition_of w).id) (addition_of w)) (sym may.numbered) may.placed
 
 plain_at : (ws : List Write) (i : ℕ) (w : Write) → i < length ws → ArePlain (additions ws) → is_design_id (addition_of (get_or ws i w)).id ≡ false
 plain_at [] i w lt all = absurd (omega (arith, lt))
@@ -229,7 +229,7 @@ plain_at (v ∷ ws) (suc i) w lt all = plain_at ws i w (omega (arith, lt)) all.1
 -- the next write is done
 pub next_ahead : (ws : List Write) (i : ℕ) (w : Write) (name : List ℕ) (db : ℤ) (sequence : ℕ) (next : ℤ) (old mid new : Database) → i < length ws → w ≡ get_or ws i w → sequence + length ws < 2 ^ 63 → next ≡ pos (sequence + i + 1)
     → ArePlain (additions ws) → (due : AreDue (additions ws) name db sequence old.trees) → IsAhead (additions ws) (additions (take i ws)) name due.row old mid → IsLawfulAddition (addition_of w)
-    → IsPlacedWrite db next (written_in (history_in (mid.trees revs_tree) db (addition_of w).id) (addition_of w)) mid new → IsAhead (additions ws) (additions (take (i + 1) ws)) name due.row old new
+    → IsPlacedWrite db next (written_in (history_in_rows (mid.trees revs_tree) db (addition_of w).id) (addition_of w)) mid new → IsAhead (additions ws) (additions (take (i + 1) ws)) name due.row old new
 next_ahead ws i w name db sequence next old mid new lt is room at plain due h lawful write =
     let r = due.row in
     let a = addition_of w in
@@ -238,27 +238,27 @@ next_ahead ws i w name db sequence next old mid new lt is room at plain due h la
     let row = row_after r (length before) in
     let count : length before ≡ i = omega (arith, length-map (take i ws) addition_of, length-take i ws, lt) in
     let grown : length (additions (take (i + 1) ws)) ≡ i + 1 = omega (arith, length-map (take (i + 1) ws) addition_of, length-take (i + 1) ws, lt) in
-    let number : sequence + i + 1 ≡ length_of r + length before + 1 = omega (arith, due.counted, count) in
-    let to : ℤ = pos (length_of r + length before + 1) in
+    let number : sequence + i + 1 ≡ sequence_of_database r + length before + 1 = omega (arith, due.counted, count) in
+    let to : ℤ = pos (sequence_of_database r + length before + 1) in
     let behind = rows_at_sequence n to h.back in
-    let placed : IsPlacedWrite n to (written_in (history_in (mid.trees revs_tree) n a.id) a) mid new =
-    subst (λ d. IsPlacedWrite d to (written_in (history_in (mid.trees revs_tree) d a.id) a) mid new) (sym due.numbered)
-    (subst (λ s. IsPlacedWrite db s (written_in (history_in (mid.trees revs_tree) db a.id) a) mid new) (at ∙ ap pos number) write) in
-    let whole : IsWrite row (written_in (history_in (mid.trees revs_tree) n a.id) a) (with_databases h.back mid) (with_databases behind new) = write_behind h.back row _ mid new placed in
-    let last : length_of r + length (additions (take (i + 1) ws)) ≡ length_of r + length before + 1 = omega (arith, grown, count) in
+    let placed : IsPlacedWrite n to (written_in (history_in_rows (mid.trees revs_tree) n a.id) a) mid new =
+    subst (λ d. IsPlacedWrite d to (written_in (history_in_rows (mid.trees revs_tree) d a.id) a) mid new) (sym due.numbered)
+    (subst (λ s. IsPlacedWrite db s (written_in (history_in_rows (mid.trees revs_tree) db a.id) a) mid new) (at ∙ ap pos number) write) in
+    let whole : IsWrite row (written_in (history_in_rows (mid.trees revs_tree) n a.id) a) (with_databases h.back mid) (with_databases behind new) = write_behind h.back row _ mid new placed in
+    let last : sequence_of_database r + length (additions (take (i + 1) ws)) ≡ sequence_of_database r + length before + 1 = omega (arith, grown, count) in
     let followed = plain_followed row a n [] [] (with_databases h.back mid) (with_databases behind new)
     (record { store = h.written.store; indexed = none_postponed n (with_databases h.back mid).trees (same_rows mid.trees (with_databases h.back mid).trees refl refl refl h.indexed) }) h.none refl
     (ap (λ (x : Write). is_design_id (addition_of x).id) is ∙ plain_at ws i w lt plain) refl whole in
     record {
       back = behind;
       written = further ws i w name db sequence old (with_databases h.back mid) (with_databases behind new) lt is room due h.written lawful whole;
-      ahead = placed_dbs n to _ mid new h.written.store.schema_is placed ∙ h.ahead ∙ sym (moved_twice n to (pos (length_of r + length (additions ws))) h.back);
+      ahead = placed_dbs n to _ mid new h.written.store.schema_is placed ∙ h.ahead ∙ sym (moved_twice n to (pos (sequence_of_database r + length (additions ws))) h.back);
       moved = λ some. ap (λ (k : ℕ). rows_at_sequence n (pos k) behind) last ∙ moved_twice n to to h.back;
       indexed = same_rows (with_databases behind new).trees new.trees refl refl refl (all_indexed n (with_databases behind new).trees followed.0.indexed);
       none = followed.1;
     }
 
 -- all writes are done
-pub last_ahead : (all : List Addition) (name : List ℕ) (r : Row) (old now : Database) → 0 < length all → IsAhead all all name r old now → HasWritten (writings_in (database_of old.trees r) all) name r old now
+pub last_ahead : (all : List Addition) (name : List ℕ) (r : Row) (old now : Database) → 0 < length all → IsAhead all all name r old now → HasWritten (writings_in (database_of_row old.trees r) all) name r old now
 last_ahead all name r old now some h =
     written_over _ name r old (with_databases h.back now) now h.written h.written.store.schema_is (record { meta = refl; dbs = h.ahead ∙ h.moved some; docs = refl; revs = refl; locals = refl })

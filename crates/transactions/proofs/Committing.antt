@@ -1,12 +1,12 @@
 -- Writes of a database that are done one after another in a transaction.
-use Rattle.transactions.proofs.Common.{Addition, AreAcceptable, AreDue, AsksInside, CommitFault, Damaged, Database, Err, Error, HasBest, HasWritten, HistoryContent, IsAcceptable, IsLaid, IsLawfulAddition, IsPermutation, IsRead, IsRolledBack, IsStorable, IsStore, IsTrue, IsUnwritten, IsWrite, KeepsCommit, List, Memory, NoDatabase, Ok, OnErr, Proceeds, Result, Row, Some, State, StoreFault, Trees, [], addition_of, additions, ap, arith, bytes_eq-Decides, cond, contents_in, database_of, document_after, drop, filter, get_or, has_winner, history_at, history_in, history_shown, history_with, inl, inr, is_of, lawful_by_one, length, length-append, length-map, length-take, length_of, map, map-append, number_of, pos, refl, revs_tree, row_after, shown_revision, subst, suc, sym, take, take-append-drop, take_more, true, with_addition, with_all, with_one, writings_in, writings_in-append, written_at, written_in, ℕ, ℤ, ∥∥₁_elim, ◌++◌, ◌+◌, ◌<◌, ◌^◌, ◌∙◌, ◌∷◌, ◌≡◌}
+use Rattle.transactions.proofs.Common.{Addition, AreAcceptable, AreDue, AsksInside, CommitFault, Damaged, Database, Err, Error, HasBest, HasWritten, HistoryContent, IsAcceptable, IsWellFormed, IsLawfulAddition, IsPermutation, IsRead, IsRolledBack, IsStorable, IsStore, IsTrue, IsUnwritten, IsWrite, KeepsCommit, List, Memory, NoDatabase, Ok, OnErr, Proceeds, Result, Row, Some, State, StoreFault, Trees, [], addition_of, additions, ap, arith, bytes_eq-Decides, cond, contents_in, database_of_row, document_after, drop, filter, get_or, has_winner, history_at, history_in_rows, history_shown, history_with, inl, inr, is_row_of_document, lawful_by_one, length, length-append, length-map, length-take, sequence_of_database, map, map-append, number_of, pos, refl, revs_tree, row_after, shown_revision, subst, suc, sym, take, take-append-drop, take_more, true, with_addition, with_all, with_one, writings_in, writings_in-append, written_at, written_in, ℕ, ℤ, ∥∥₁_elim, ◌++◌, ◌+◌, ◌<◌, ◌^◌, ◌∙◌, ◌∷◌, ◌≡◌}
 use Rattle.std.proofs.Math.Bool.{Bool-set}
 use Rattle.std.proofs.Math.Seq.{drop-cons}
 use Rattle.std.specs.FinMap as finite
 use Rattle.std.specs.Prelude.{bytes_eq}
 use Rattle.sqlite.specs.Steps.{FailsToCommit}
 use Rattle.sqlite.proofs.StateLemmas.{survives_then}
-use Rattle.store.specs.Lawful.{IsLawful}
+use Rattle.store.specs.Lawful.{IsLawfulDatabase}
 use Rattle.store.specs.Database as store
 use Rattle.store.specs.declared.write.Write.{Write}
 use Rattle.tables.proofs.DocumentWriteNews.{storable_addition}
@@ -24,12 +24,12 @@ use Rattle.tree.proofs.Shown.{inside}
 
 -- ---- the history that is read
 
-pub history_read : (trees : Trees) (db : ℤ) (id : List ℕ) (rows : List Row) (h : HistoryContent) → IsLaid trees → IsPermutation (map shown_revision (filter (is_of db id) (trees revs_tree))) rows → Some (history_shown rows) ≡ Some h → h ≡ history_in (trees revs_tree) db id
+pub history_read : (trees : Trees) (db : ℤ) (id : List ℕ) (rows : List Row) (h : HistoryContent) → IsWellFormed trees → IsPermutation (map shown_revision (filter (is_row_of_document db id) (trees revs_tree))) rows → Some (history_shown rows) ≡ Some h → h ≡ history_in_rows (trees revs_tree) db id
 history_read trees db id rows h l same is = sym (inside (history_shown rows) h is) ∙ history_made trees db id rows l same
 
 -- the history of the same rows, by the same number and the same id
-pub history_of : (revs : List Row) (n m : ℤ) (i j : List ℕ) (h : HistoryContent) → n ≡ m → i ≡ j → h ≡ history_in revs n i → h ≡ history_in revs m j
-history_of revs n m i j h numbered named is = is ∙ ap (λ k. history_in revs k i) numbered ∙ ap (history_in revs m) named
+pub history_of : (revs : List Row) (n m : ℤ) (i j : List ℕ) (h : HistoryContent) → n ≡ m → i ≡ j → h ≡ history_in_rows revs n i → h ≡ history_in_rows revs m j
+history_of revs n m i j h numbered named is = is ∙ ap (λ k. history_in_rows revs k i) numbered ∙ ap (history_in_rows revs m) named
 
 -- what was not read was not intact, or memory ran out
 pub lost : {A : Type 0} (said : A) (intact sound : Type 0) (fault : StoreFault) → IsRead {X = A} (λ v. v) (Some said) intact (Err fault) → (sound → intact) → IsUnwritten sound (write.Store fault)
@@ -80,11 +80,11 @@ module _ (a b c : State) (first : Database) (same : a.committed ≡ first) (kept
 -- ---- one write more
 
 -- the write of a document by a history that serves, over the rows as they were
-pub document_written : (db sequence : ℤ) (a : Addition) (k : HistoryContent) (old mid new : Database) → mid ≡ old → IsStore old → Serves a (history_in (old.trees revs_tree) db a.id) k
-    → (IsStore mid → Serves a (history_in (mid.trees revs_tree) db a.id) k → IsPlacedWrite db sequence (written_in (history_in (mid.trees revs_tree) db a.id) a) mid new)
-    → IsPlacedWrite db sequence (written_in (history_in (old.trees revs_tree) db a.id) a) old new
+pub document_written : (db sequence : ℤ) (a : Addition) (k : HistoryContent) (old mid new : Database) → mid ≡ old → IsStore old → Serves a (history_in_rows (old.trees revs_tree) db a.id) k
+    → (IsStore mid → Serves a (history_in_rows (mid.trees revs_tree) db a.id) k → IsPlacedWrite db sequence (written_in (history_in_rows (mid.trees revs_tree) db a.id) a) mid new)
+    → IsPlacedWrite db sequence (written_in (history_in_rows (old.trees revs_tree) db a.id) a) old new
 document_written db sequence a k old mid new same store serves writes =
-    let Is : Database → Type 0 = λ d. IsStore d → Serves a (history_in (d.trees revs_tree) db a.id) k → IsPlacedWrite db sequence (written_in (history_in (d.trees revs_tree) db a.id) a) d new in
+    let Is : Database → Type 0 = λ d. IsStore d → Serves a (history_in_rows (d.trees revs_tree) db a.id) k → IsPlacedWrite db sequence (written_in (history_in_rows (d.trees revs_tree) db a.id) a) d new in
     subst Is same writes store serves
 
 -- a history that is the document's own serves
@@ -95,11 +95,11 @@ pub length-writings_in : (db : store.Database) (all : List Addition) → length 
 length-writings_in db [] = refl
 length-writings_in db (a ∷ all) = ap suc (length-writings_in (with_one db (written_at db a)) all)
 
-pub one_more : (all before more : List Addition) (a : Addition) (name : List ℕ) (r : Row) (old mid new : Database) → all ≡ before ++ a ∷ more → AreAcceptable (database_of old.trees r) (writings_in (database_of old.trees r) all)
-    → length_of r + length all < 2 ^ 63 → HasWritten (writings_in (database_of old.trees r) before) name r old mid → IsLawfulAddition a
-    → (HasPlaceFor (history_in (mid.trees revs_tree) (number_of r) a.id) a → IsWrite (row_after r (length before)) (written_in (history_in (mid.trees revs_tree) (number_of r) a.id) a) mid new) → HasWritten (writings_in (database_of old.trees r) (before ++ a ∷ [])) name r old new
+pub one_more : (all before more : List Addition) (a : Addition) (name : List ℕ) (r : Row) (old mid new : Database) → all ≡ before ++ a ∷ more → AreAcceptable (database_of_row old.trees r) (writings_in (database_of_row old.trees r) all)
+    → sequence_of_database r + length all < 2 ^ 63 → HasWritten (writings_in (database_of_row old.trees r) before) name r old mid → IsLawfulAddition a
+    → (HasPlaceFor (history_in_rows (mid.trees revs_tree) (number_of r) a.id) a → IsWrite (row_after r (length before)) (written_in (history_in_rows (mid.trees revs_tree) (number_of r) a.id) a) mid new) → HasWritten (writings_in (database_of_row old.trees r) (before ++ a ∷ [])) name r old new
 one_more all before more a name r old mid new cut acceptable room h lawful write =
-    let db = database_of old.trees r in
+    let db = database_of_row old.trees r in
     let ws = writings_in db before in
     let count : length ws ≡ length before = length-writings_in db before in
     let same = known ws name r old mid a.id h in
@@ -113,9 +113,9 @@ one_more all before more a name r old mid new cut acceptable room h lawful write
     (one_more_written ws w name r old mid new h turn storable (omega (arith, count, size, length-append before (a ∷ more), room)) done)
 
 pub further : (ws : List Write) (i : ℕ) (w : Write) (name : List ℕ) (db : ℤ) (sequence : ℕ) (old mid new : Database) → i < length ws → w ≡ get_or ws i w → sequence + length ws < 2 ^ 63
-    → (due : AreDue (additions ws) name db sequence old.trees) → HasWritten (writings_in (database_of old.trees due.row) (additions (take i ws))) name due.row old mid → IsLawfulAddition (addition_of w)
-    → IsWrite (row_after due.row (length (additions (take i ws)))) (written_in (history_in (mid.trees revs_tree) (number_of due.row) (addition_of w).id) (addition_of w)) mid new
-    → HasWritten (writings_in (database_of old.trees due.row) (additions (take (i + 1) ws))) name due.row old new
+    → (due : AreDue (additions ws) name db sequence old.trees) → HasWritten (writings_in (database_of_row old.trees due.row) (additions (take i ws))) name due.row old mid → IsLawfulAddition (addition_of w)
+    → IsWrite (row_after due.row (length (additions (take i ws)))) (written_in (history_in_rows (mid.trees revs_tree) (number_of due.row) (addition_of w).id) (addition_of w)) mid new
+    → HasWritten (writings_in (database_of_row old.trees due.row) (additions (take (i + 1) ws))) name due.row old new
 further ws i w name db sequence old mid new lt is room due h lawful write =
     let r = due.row in
     let a = addition_of w in
@@ -125,12 +125,12 @@ further ws i w name db sequence old mid new lt is room due h lawful write =
     let all : additions ws ≡ before ++ a ∷ more = ap additions cut ∙ map-append addition_of (take i ws) (w ∷ drop (suc i) ws) in
     let grown : additions (take (i + 1) ws) ≡ before ++ a ∷ [] = ap additions (take_more ws i w lt ∙ ap (λ x. take i ws ++ x ∷ []) (sym is)) ∙ map-append addition_of (take i ws) (w ∷ []) in
     let size : length (additions ws) ≡ length ws = length-map ws addition_of in
-    subst (λ all. HasWritten (writings_in (database_of old.trees r) all) name r old new) (sym grown)
+    subst (λ all. HasWritten (writings_in (database_of_row old.trees r) all) name r old new) (sym grown)
     (one_more (additions ws) before more a name r old mid new all due.acceptable (omega (arith, due.counted, size, room)) h lawful (λ place. write))
 
 -- the write may be done when its turn comes
 pub may_in_turn : (ws : List Write) (i : ℕ) (w : Write) (name : List ℕ) (db : ℤ) (sequence : ℕ) (next : ℤ) (old mid : Database) → i < length ws → w ≡ get_or ws i w → sequence + length ws < 2 ^ 63 → next ≡ pos (sequence + i + 1)
-    → (due : AreDue (additions ws) name db sequence old.trees) → HasWritten (writings_in (database_of old.trees due.row) (additions (take i ws))) name due.row old mid → MayBeWritten db next (addition_of w) mid
+    → (due : AreDue (additions ws) name db sequence old.trees) → HasWritten (writings_in (database_of_row old.trees due.row) (additions (take i ws))) name due.row old mid → MayBeWritten db next (addition_of w) mid
 may_in_turn ws i w name db sequence next old mid lt is room at due h =
     let r = due.row in
     let a = addition_of w in
@@ -139,8 +139,8 @@ may_in_turn ws i w name db sequence next old mid lt is room at due h =
     let cut : ws ≡ take i ws ++ w ∷ drop (suc i) ws = sym (take-append-drop i ws) ∙ ap (λ l. take i ws ++ l) (drop-cons ws i w lt ∙ ap (λ x. x ∷ drop (suc i) ws) (sym is)) in
     let all : additions ws ≡ before ++ a ∷ more = ap additions cut ∙ map-append addition_of (take i ws) (w ∷ drop (suc i) ws) in
     let count : length before ≡ i = omega (arith, length-map (take i ws) addition_of, length-take i ws, lt) in
-    let number : sequence + i + 1 ≡ length_of r + length before + 1 = omega (arith, due.counted, count) in
-    let first = database_of old.trees r in
+    let number : sequence + i + 1 ≡ sequence_of_database r + length before + 1 = omega (arith, due.counted, count) in
+    let first = database_of_row old.trees r in
     let done = writings_in first before in
     let same = known done name r old mid a.id h in
     let own = written_at (with_all first done) a in
@@ -155,16 +155,16 @@ may_in_turn ws i w name db sequence next old mid lt is room at due h =
 
 -- and when it was done and the index rows followed it, it is one of those that are done
 pub further_followed : (ws : List Write) (i : ℕ) (w : Write) (name : List ℕ) (db : ℤ) (ids : List (List ℕ)) (sequence : ℕ) (next : ℤ) (old mid new : Database) (lt : i < length ws) (is : w ≡ get_or ws i w) (room : sequence + length ws < 2 ^ 63) (at : next ≡ pos (sequence + i + 1))
-    → (due : AreDue (additions ws) name db sequence old.trees) (h : HasWritten (writings_in (database_of old.trees due.row) (additions (take i ws))) name due.row old mid) → IsLawfulAddition (addition_of w)
+    → (due : AreDue (additions ws) name db sequence old.trees) (h : HasWritten (writings_in (database_of_row old.trees due.row) (additions (take i ws))) name due.row old mid) → IsLawfulAddition (addition_of w)
     → IsFollowed db ids (may_in_turn ws i w name db sequence next old mid lt is room at due h).row (write_in mid.trees (may_in_turn ws i w name db sequence next old mid lt is room at due h).row (addition_of w)) mid new
-    → HasWritten (writings_in (database_of old.trees due.row) (additions (take (i + 1) ws))) name due.row old new
+    → HasWritten (writings_in (database_of_row old.trees due.row) (additions (take (i + 1) ws))) name due.row old new
 unfolding may_in_turn
 further_followed ws i w name db ids sequence next old mid new lt is room at due h lawful followed =
     written_still _ name due.row old followed.written new (further ws i w name db sequence old mid followed.written lt is room due h lawful followed.write) followed.only
 
 -- ---- the history of a write that may be done has a best revision
 
-best_after : (db : store.Database) (a : Addition) → IsLawful db → IsAcceptable db (written_at db a) → HasBest (with_addition (history_at db a.id) a)
+best_after : (db : store.Database) (a : Addition) → IsLawfulDatabase db → IsAcceptable db (written_at db a) → HasBest (with_addition (history_at db a.id) a)
 best_after db a lawful ok =
     let w = written_at db a in
     let own : bytes_eq a.id a.id ≡ true = (bytes_eq-Decides a.id a.id).1 refl in
@@ -172,10 +172,10 @@ best_after db a lawful ok =
     has_winner d.history
     ((lawful_by_one db w lawful ok).documents a.id d (document_after db w a.id ∙ ap (λ b. cond b (Some d) (finite.get db.documents a.id)) own))
 
-pub has_best : (all before more : List Addition) (a : Addition) (name : List ℕ) (r : Row) (old mid : Database) → all ≡ before ++ a ∷ more → AreAcceptable (database_of old.trees r) (writings_in (database_of old.trees r) all)
-    → HasWritten (writings_in (database_of old.trees r) before) name r old mid → HasBest (history_with mid.trees (number_of r) a)
+pub has_best : (all before more : List Addition) (a : Addition) (name : List ℕ) (r : Row) (old mid : Database) → all ≡ before ++ a ∷ more → AreAcceptable (database_of_row old.trees r) (writings_in (database_of_row old.trees r) all)
+    → HasWritten (writings_in (database_of_row old.trees r) before) name r old mid → HasBest (history_with mid.trees (number_of r) a)
 has_best all before more a name r old mid cut acceptable h =
-    let db = database_of old.trees r in
+    let db = database_of_row old.trees r in
     let ws = writings_in db before in
     let then = with_all db ws in
     let same = known ws name r old mid a.id h in
@@ -186,7 +186,7 @@ has_best all before more a name r old mid cut acceptable h =
     (∥∥₁_elim h.store.laid.lawful (Bool-set _ _) (λ lawful. best_after then a (lawful name then there) turn))
 
 pub best_in_turn : (ws : List Write) (i : ℕ) (w : Write) (name : List ℕ) (db : ℤ) (sequence : ℕ) (old mid : Database) → i < length ws → w ≡ get_or ws i w
-    → (due : AreDue (additions ws) name db sequence old.trees) → HasWritten (writings_in (database_of old.trees due.row) (additions (take i ws))) name due.row old mid → HasBest (history_with mid.trees db (addition_of w))
+    → (due : AreDue (additions ws) name db sequence old.trees) → HasWritten (writings_in (database_of_row old.trees due.row) (additions (take i ws))) name due.row old mid → HasBest (history_with mid.trees db (addition_of w))
 best_in_turn ws i w name db sequence old mid lt is due h =
     let before = additions (take i ws) in
     let more = additions (drop (suc i) ws) in

@@ -1,5 +1,5 @@
 -- Postponed design documents in turn: each has its indexes taken out, or declared.
-use Rattle.transactions.proofs.Common.{CommitFault, Database, Err, HasCleanDisk, Held, IfErr, IsUnwritten, List, Ok, Result, [], ap, state, subst, sym, true, ℕ, ℤ, ◌∙◌, ◌∷◌, ◌≡◌}
+use Rattle.transactions.proofs.Common.{CommitFault, Database, Err, HasCleanDisk, Held, List, Ok, Result, [], ap, state, subst, sym, true, ℕ, ℤ, ◌∙◌, ◌∷◌, ◌≡◌}
 use Rattle.std.specs.List.{list_any}
 use Rattle.std.specs.Prelude.{bytes_eq}
 use Rattle.sqlite_trees.specs.declared.store.Store.{Ghosts}
@@ -12,6 +12,7 @@ use Rattle.index.specs.Shown.{Declared}
 use Rattle.index.specs.Steps.{AreFit, Steps}
 use Rattle.transactions.proofs.Postponed.{cleared_next, cleared_one, declare_next, declared_one, first_among, later_among, none_cleared, none_declared_yet}
 use Rattle.transactions.proofs.Redeclared.{unwritten_as, unwritten_then}
+use Rattle.transactions.specs.inner.Calls.{MakesStep}
 use Rattle.transactions.specs.inner.Postponing.{AreClearedAsStored, AreDeclaredAsStored, AreToDeclare, IsClearedAsStored, IsDeclaredAsStored, IsToDeclareAsStored}
 
 -- ---- before the first
@@ -51,7 +52,7 @@ module _ {S : Type 0} (g : Ghosts S) (db : ℤ) (ids now : List (List ℕ)) (x :
 
   -- what is promised of one that is cleared
   abbrev ClearsOne : Result (Unit {0}) CommitFault → Type 0
-  ClearsOne r = (declares : Declarations) (sees : Documents) → Steps g (IsRebuildable declares sees db) (IsClearedAsStored declares sees db x) between last r
+  ClearsOne r = (declares : Declarations) (sees : Documents) → MakesStep g (IsRebuildable declares sees db) (IsClearedAsStored declares sees db x) between last r
 
   module _ (so_far : (declares : Declarations) (sees : Documents) → Steps {X = Unit {0}} {E = CommitFault} g (IsRebuildable declares sees db) (AreClearedAsStored declares sees db ids now) first between (Ok tt))
       (declares : Declarations) (sees : Documents) where
@@ -69,18 +70,15 @@ module _ {S : Type 0} (g : Ghosts S) (db : ℤ) (ids now : List (List ℕ)) (x :
 
     pub one_more_cleared : ClearsOne (Ok tt) → Steps {X = Unit {0}} {E = CommitFault} g Fit (Cleared left) first last (Ok tt)
     one_more_cleared p =
-        steps_then g {E = CommitFault} Fit (IsRebuildable then sees db) (Cleared now) (IsClearedAsStored then sees db x) (Cleared left) first between last tt (Ok tt) (so_far declares sees) (p then sees) clears_next
+        steps_then g {E = CommitFault} Fit (IsRebuildable then sees db) (Cleared now) (IsClearedAsStored then sees db x) (Cleared left) first between last tt (Ok tt) (so_far declares sees) (p then sees).steps clears_next
         (λ was fit made got. cleared_one declares sees db ids x left a b e among fit (subst (λ l. Cleared l a b) cut made) got)
 
-    pub clearing_one_failed : (fault : CommitFault) (r : Result (Unit {0}) CommitFault) → r ≡ Err fault → ClearsOne (Err fault) → Steps g Fit (Cleared []) first last r
-    clearing_one_failed fault r is p =
-        steps_failed g Fit (IsRebuildable then sees db) (Cleared now) (IsClearedAsStored then sees db x) (Cleared []) first between last tt fault fault r is (so_far declares sees) (p then sees) clears_next
-
-    pub clearing_one_refused : (fault : CommitFault) (r : Result (Unit {0}) CommitFault) → r ≡ Err fault → ClearsOne (Err fault)
-        → ((declares : Declarations) (sees : Documents) → IsUnwritten (AreFit g (IsRebuildable declares sees db) between last) fault) → IfErr r (IsUnwritten (AreFit g Fit first last))
-    clearing_one_refused fault r is p err =
-        unwritten_as (AreFit g Fit first last) r fault is
-        (unwritten_then g Fit (IsRebuildable then sees db) (Cleared now) first between last tt fault (so_far declares sees) (p then sees).asks clears_next (err then sees))
+    pub clearing_one_stopped : (fault : CommitFault) (r : Result (Unit {0}) CommitFault) → r ≡ Err fault → ClearsOne (Err fault) → MakesStep g Fit (Cleared []) first last r
+    clearing_one_stopped fault r is p = record {
+      steps = steps_failed g Fit (IsRebuildable then sees db) (Cleared now) (IsClearedAsStored then sees db x) (Cleared []) first between last tt fault fault r is (so_far declares sees) (p then sees).steps clears_next;
+      err = unwritten_as (AreFit g Fit first last) r fault is
+          (unwritten_then g Fit (IsRebuildable then sees db) (Cleared now) first between last tt fault (so_far declares sees) (p then sees).steps.asks clears_next (p then sees).err);
+    }
 
   module _ (from before : List Declared) (so_far : (sees : Documents) → Steps {X = Unit {0}} {E = CommitFault} g (AreToDeclare sees db ids from) (AreDeclaredAsStored sees db ids now before) first between (Ok tt)) (after : List Declared)
       (sees : Documents) where
@@ -95,22 +93,20 @@ module _ {S : Type 0} (g : Ghosts S) (db : ℤ) (ids now : List (List ℕ)) (x :
 
     -- what is promised of one that is declared
     abbrev DeclaresOne : Result (Unit {0}) CommitFault → Type 0
-    DeclaresOne r = (declares : Declarations) (sees : Documents) → Steps g (IsToDeclareAsStored declares sees db x before) (IsDeclaredAsStored declares sees db x after) between last r
+    DeclaresOne r = (declares : Declarations) (sees : Documents) → MakesStep g (IsToDeclareAsStored declares sees db x before) (IsDeclaredAsStored declares sees db x after) between last r
 
     declares_next : HasCleanDisk (state g between) → Due a → Done now before a b → IsToDeclareAsStored known sees db x before b
     declares_next was fit made = declare_next sees db ids x left from before a b fit (subst (λ l. Done l before a b) cut made)
 
     pub one_more_declared : DeclaresOne (Ok tt) → Steps {X = Unit {0}} {E = CommitFault} g Due (Done left after) first last (Ok tt)
     one_more_declared p =
-        steps_then g {E = CommitFault} Due (IsToDeclareAsStored known sees db x before) (Done now before) (IsDeclaredAsStored known sees db x after) (Done left after) first between last tt (Ok tt) (so_far sees) (p known sees) declares_next
+        steps_then g {E = CommitFault} Due (IsToDeclareAsStored known sees db x before) (Done now before) (IsDeclaredAsStored known sees db x after) (Done left after) first between last tt (Ok tt) (so_far sees) (p known sees).steps declares_next
         (λ was fit made got. declared_one sees db ids x left from before after a b e among fit (subst (λ l. Done l before a b) cut made) got)
 
-    pub declaring_one_failed : (fault : CommitFault) (r : Result (Unit {0}) CommitFault) → r ≡ Err fault → DeclaresOne (Err fault) → Steps g Due (Done [] after) first last r
-    declaring_one_failed fault r is p =
-        steps_failed g Due (IsToDeclareAsStored known sees db x before) (Done now before) (IsDeclaredAsStored known sees db x after) (Done [] after) first between last tt fault fault r is (so_far sees) (p known sees) declares_next
-
-    pub declaring_one_refused : (fault : CommitFault) (r : Result (Unit {0}) CommitFault) → r ≡ Err fault → DeclaresOne (Err fault)
-        → ((declares : Declarations) (sees : Documents) → IsUnwritten (AreFit g (IsToDeclareAsStored declares sees db x before) between last) fault) → IfErr r (IsUnwritten (AreFit g Due first last))
-    declaring_one_refused fault r is p err =
-        unwritten_as (AreFit g Due first last) r fault is
-        (unwritten_then g Due (IsToDeclareAsStored known sees db x before) (Done now before) first between last tt fault (so_far sees) (p known sees).asks declares_next (err known sees))
+    pub declaring_one_stopped : (fault : CommitFault) (r : Result (Unit {0}) CommitFault) → r ≡ Err fault → DeclaresOne (Err fault) → MakesStep g Due (Done [] after) first last r
+    declaring_one_stopped fault r is p = record {
+      steps =
+          steps_failed g Due (IsToDeclareAsStored known sees db x before) (Done now before) (IsDeclaredAsStored known sees db x after) (Done [] after) first between last tt fault fault r is (so_far sees) (p known sees).steps declares_next;
+      err = unwritten_as (AreFit g Due first last) r fault is
+          (unwritten_then g Due (IsToDeclareAsStored known sees db x before) (Done now before) first between last tt fault (so_far sees) (p known sees).steps.asks declares_next (p known sees).err);
+    }

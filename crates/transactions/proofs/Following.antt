@@ -1,5 +1,5 @@
 -- A revision that follows the winner and is not deleted is the winner then, and such a write asks for no more of a history than its winner.
-use Rattle.transactions.proofs.Common.{Addition, Bool, Entry, Err, HasBest, HistoryContent, IsTrue, List, None, Ok, Option, Revision, Some, [], option_map, ap, arith, behind, cond, entries_before, entries_of, eq_by_cmp, false, head, inl, inr, is_known, length, not, refl, revision_cmp, revision_cmp_total, subst, suc, sym, text_of, true, unknown_in, with_addition, with_entries, ℕ, ◌++◌, ◌<◌, ◌∙◌, ◌∷◌, ◌≡◌, ◌≢◌}
+use Rattle.transactions.proofs.Common.{Addition, Bool, Entry, Err, HasBest, HistoryContent, IsTrue, List, None, Ok, Option, Revision, Some, [], option_map, ap, arith, ancestors_of_parent, cond, entries_before, entries_of, eq_by_cmp, false, head, inl, inr, is_known, length, not, refl, revision_cmp, revision_cmp_total, subst, suc, sym, text_of, true, unknown_in, with_addition, with_entries, ℕ, ◌++◌, ◌<◌, ◌∙◌, ◌∷◌, ◌≡◌, ◌≢◌}
 use Rattle.std.proofs.lemmas.Bool.{and_parts, false≢true}
 use Rattle.std.proofs.lemmas.Bool.Decides.{nat_tests}
 use Rattle.std.proofs.Common.{zero}
@@ -14,9 +14,9 @@ use Rattle.tree.proofs.Contents.{get-with_new, or}
 use Rattle.tree.proofs.Leaves.{leaf_is_childless, winner_is_best}
 use Rattle.tree.proofs.Revisions.{same, tied}
 use Rattle.tree.proofs.Shown.{inside}
-use Rattle.tree.specs.History.{IsBetter, held_of, is_deleted, is_leaf, keeps_parents, line, onward, parent_of, placement, with_new, winner}
+use Rattle.tree.specs.History.{IsBetter, held_of, is_deleted, is_leaf, keeps_parents, path_from, onward, parent_of, placement, with_new, winner}
 use Rattle.tree.specs.Outline.{marked_revision}
-use Rattle.tree.specs.Write.{is_whole}
+use Rattle.tree.specs.Write.{is_whole_path}
 use Rattle.tree.specs.declared.marked_rev.MarkedRev.{MarkedRev}
 use Rattle.tree.specs.declared.placement.Placed.TheVariants.{Added, Known}
 use Rattle.tree.specs.declared.placement.TreeFault.TheVariants.{BadPath, OtherParent}
@@ -208,9 +208,9 @@ module _ (w : Revision) where
 
 -- ---- what a write that follows the winner asks
 
-head_line : (h : HistoryContent) (w : Revision) (n : ℕ) → 0 < n → is_known h w ≡ true → head (line h n w) ≡ Some w
+head_line : (h : HistoryContent) (w : Revision) (n : ℕ) → 0 < n → is_known h w ≡ true → head (path_from h n w) ≡ Some w
 head_line h w zero lt known = absurd (omega (arith, lt))
-head_line h w (suc n) lt known = ap (λ b. head (cond b (w ∷ onward (λ p. line h n p) (parent_of h w)) [])) known
+head_line h w (suc n) lt known = ap (λ b. head (cond b (w ∷ onward (λ p. path_from h n p) (parent_of h w)) [])) known
 
 module _ (a : Addition) (w : Revision) (f : IsFollower a w) (positive : 0 < w.number) where
   abbrev held : Held
@@ -220,14 +220,14 @@ module _ (a : Addition) (w : Revision) (f : IsFollower a w) (positive : 0 < w.nu
   entry = record { parent = Some w; held = Some held }
 
   module _ (h : HistoryContent) (known : is_known h w ≡ true) where
-    follows_it : head (behind h a.parent) ≡ Some w
-    follows_it = ap (λ o. head (behind h o)) f.follows ∙ head_line h w w.number positive known
+    follows_it : head (ancestors_of_parent h a.parent) ≡ Some w
+    follows_it = ap (λ o. head (ancestors_of_parent h o)) f.follows ∙ head_line h w w.number positive known
 
     one_entry : entries_of h a ≡ (f.newest, entry) ∷ []
     one_entry = λ i. entries_before (Some held) (f.alone i) (follows_it i)
 
     one_more : with_addition h a ≡ with_new h f.newest entry
-    one_more = with_followed h (Some held) a.path (behind h a.parent) (behind_known h a.parent) ∙ ap (with_entries h) one_entry
+    one_more = with_followed h (Some held) a.path (ancestors_of_parent h a.parent) (behind_known h a.parent) ∙ ap (with_entries h) one_entry
 
     one_new : is_known h f.newest ≡ false → unknown_in h (entries_of h a) ≡ (f.newest, entry) ∷ []
     one_new new = ap (unknown_in h) one_entry ∙ ap (λ b. cond (not b) ((f.newest, entry) ∷ []) []) new
@@ -243,18 +243,18 @@ module _ (a : Addition) (w : Revision) (f : IsFollower a w) (positive : 0 < w.nu
     there : is_known h w ≡ true
     there = winner_known h w wins
 
-    path_is : a.path ++ behind h a.parent ≡ f.newest ∷ behind h (Some w)
-    path_is = λ i. f.alone i ++ behind h (f.follows i)
+    path_is : a.path ++ ancestors_of_parent h a.parent ≡ f.newest ∷ ancestors_of_parent h (Some w)
+    path_is = λ i. f.alone i ++ ancestors_of_parent h (f.follows i)
 
-    fitted : (is_whole (f.newest ∷ behind h (Some w)) ≡ true) × (is_known h f.newest ≡ false)
-    fitted = fits (is_whole (f.newest ∷ behind h (Some w))) (keeps_parents h (f.newest ∷ behind h (Some w))) (is_known h f.newest) (ap (placement h) (sym path_is) ∙ place)
+    fitted : (is_whole_path (f.newest ∷ ancestors_of_parent h (Some w)) ≡ true) × (is_known h f.newest ≡ false)
+    fitted = fits (is_whole_path (f.newest ∷ ancestors_of_parent h (Some w))) (keeps_parents h (f.newest ∷ ancestors_of_parent h (Some w))) (is_known h f.newest) (ap (placement h) (sym path_is) ∙ place)
 
-    counts : (n : ℕ) → w.number ≡ n → is_whole (f.newest ∷ line h n w) ≡ true → w.number < f.newest.number
+    counts : (n : ℕ) → w.number ≡ n → is_whole_path (f.newest ∷ path_from h n w) ≡ true → w.number < f.newest.number
     counts zero is whole = absurd (omega (arith, is, positive))
     counts (suc n) is whole =
-        let tail = onward (λ p. line h n p) (parent_of h w) in
-        let cut : line h (suc n) w ≡ w ∷ tail = ap (λ b. cond b (w ∷ tail) []) there in
-        let all : is_whole (f.newest ∷ w ∷ tail) ≡ true = ap (λ l. is_whole (f.newest ∷ l)) (sym cut) ∙ whole in
+        let tail = onward (λ p. path_from h n p) (parent_of h w) in
+        let cut : path_from h (suc n) w ≡ w ∷ tail = ap (λ b. cond b (w ∷ tail) []) there in
+        let all : is_whole_path (f.newest ∷ w ∷ tail) ≡ true = ap (λ l. is_whole_path (f.newest ∷ l)) (sym cut) ∙ whole in
         let one = and_parts (f.newest.number == suc (suc (length tail))) _ all in
         let two = and_parts (w.number == suc (length tail)) _ one.1 in
         grind (arith, nat_tests)

@@ -1,5 +1,5 @@
 -- Histories that are held by a map while documents are written one after another.
-use Rattle.transactions.proofs.Common.{Addition, AreStored, Bool, Database, HasWritten, HistoryContent, IsWith, IsWithin, List, None, Option, Row, Some, [], addition_of, additions, ap, bytes_eq-Decides, cond, database_of, false, get_or, history_at, history_at-with_all, history_in, is_eq-slice_cmp, length, map-append, number_of, refl, revs_tree, row_after, slice_cmp, subst, sym, take, take_more, true, with_addition, with_all, with_all-writings_in, writings_in, ℕ, ℤ, ◌++◌, ◌+◌, ◌<◌, ◌∙◌, ◌∷◌, ◌≡◌}
+use Rattle.transactions.proofs.Common.{Addition, AreStored, Bool, Database, HasWritten, HistoryContent, IsWith, IsWithin, List, None, Option, Row, Some, [], addition_of, additions, ap, bytes_eq-Decides, cond, database_of_row, false, get_or, history_at, history_at-with_all, history_in_rows, is_eq-slice_cmp, length, map-append, number_of, refl, revs_tree, row_after, slice_cmp, subst, sym, take, take_more, true, with_addition, with_all, with_all-writings_in, writings_in, ℕ, ℤ, ◌++◌, ◌+◌, ◌<◌, ◌∙◌, ◌∷◌, ◌≡◌}
 use Rattle.std.specs.Prelude.{bytes_eq}
 use Rattle.std.specs.BTreeMap.{BTreeMap, IsEmpty, get, is_at}
 use Rattle.std.specs.Map.{lookup}
@@ -53,31 +53,31 @@ stored_on m n M N a grown stored put id h is =
 
 -- the history that a document has when some of the writes were done
 pub known : (ws : List store.DocumentWrite) (name : List ℕ) (r : Row) (old now : Database) (id : List ℕ) → HasWritten ws name r old now
-    → history_in (now.trees revs_tree) (number_of r) id ≡ history_at (with_all (database_of old.trees r) ws) id
+    → history_in_rows (now.trees revs_tree) (number_of r) id ≡ history_at (with_all (database_of_row old.trees r) ws) id
 known ws name r old now id h = sym (document_found now.trees (row_after r (length ws)) id h.store.laid) ∙ ap (λ (d : store.Database). history_at d id) h.database
 
 -- one write more changes the history of its document alone
 one_more_known : (before : List Addition) (a : Addition) (name : List ℕ) (r : Row) (old mid new : Database)
-    → HasWritten (writings_in (database_of old.trees r) before) name r old mid → HasWritten (writings_in (database_of old.trees r) (before ++ a ∷ [])) name r old new
-    → (id : List ℕ) → history_in (new.trees revs_tree) (number_of r) id
-    ≡ cond (bytes_eq a.id id) (with_addition (history_in (mid.trees revs_tree) (number_of r) id) a) (history_in (mid.trees revs_tree) (number_of r) id)
+    → HasWritten (writings_in (database_of_row old.trees r) before) name r old mid → HasWritten (writings_in (database_of_row old.trees r) (before ++ a ∷ [])) name r old new
+    → (id : List ℕ) → history_in_rows (new.trees revs_tree) (number_of r) id
+    ≡ cond (bytes_eq a.id id) (with_addition (history_in_rows (mid.trees revs_tree) (number_of r) id) a) (history_in_rows (mid.trees revs_tree) (number_of r) id)
 one_more_known before a name r old mid new first second id =
-    let db = database_of old.trees r in
+    let db = database_of_row old.trees r in
     known (writings_in db (before ++ a ∷ [])) name r old new id second
     ∙ ap (λ (d : store.Database). history_at d id) (with_all-writings_in db before (a ∷ []))
     ∙ history_at-with_all (a ∷ []) (with_all db (writings_in db before)) id
     ∙ ap (λ h. cond (bytes_eq a.id id) (with_addition h a) h) (sym (known (writings_in db before) name r old mid id first))
 
 pub stored_further : (ws : List Write) (i : ℕ) (w : Write) (name : List ℕ) (db : ℤ) (r : Row) (old mid new : Database) (m n : BTreeMap (List ℕ) HistoryContent) → i < length ws → w ≡ get_or ws i w → number_of r ≡ db
-    → HasWritten (writings_in (database_of old.trees r) (additions (take i ws))) name r old mid → HasWritten (writings_in (database_of old.trees r) (additions (take (i + 1) ws))) name r old new
-    → AreStored m (history_in (mid.trees revs_tree) db) → IsWithin m (addition_of w).id (with_addition (history_in (mid.trees revs_tree) db (addition_of w).id) (addition_of w)) n
-    → AreStored n (history_in (new.trees revs_tree) db)
+    → HasWritten (writings_in (database_of_row old.trees r) (additions (take i ws))) name r old mid → HasWritten (writings_in (database_of_row old.trees r) (additions (take (i + 1) ws))) name r old new
+    → AreStored m (history_in_rows (mid.trees revs_tree) db) → IsWithin m (addition_of w).id (with_addition (history_in_rows (mid.trees revs_tree) db (addition_of w).id) (addition_of w)) n
+    → AreStored n (history_in_rows (new.trees revs_tree) db)
 stored_further ws i w name db r old mid new m n lt is numbered first second stored put =
     let before = additions (take i ws) in
     let a = addition_of w in
     let grown : additions (take (i + 1) ws) ≡ before ++ a ∷ [] = ap additions (take_more ws i w lt ∙ ap (λ x. take i ws ++ x ∷ []) (sym is)) ∙ map-append addition_of (take i ws) (w ∷ []) in
-    let later = subst (λ all. HasWritten (writings_in (database_of old.trees r) all) name r old new) grown second in
+    let later = subst (λ all. HasWritten (writings_in (database_of_row old.trees r) all) name r old new) grown second in
     let follows = one_more_known before a name r old mid new first later in
-    stored_on m n (history_in (mid.trees revs_tree) db) (history_in (new.trees revs_tree) db) a
-    (subst (λ k. (id : List ℕ) → history_in (new.trees revs_tree) k id ≡ cond (bytes_eq a.id id) (with_addition (history_in (mid.trees revs_tree) k id) a) (history_in (mid.trees revs_tree) k id)) numbered follows)
+    stored_on m n (history_in_rows (mid.trees revs_tree) db) (history_in_rows (new.trees revs_tree) db) a
+    (subst (λ k. (id : List ℕ) → history_in_rows (new.trees revs_tree) k id ≡ cond (bytes_eq a.id id) (with_addition (history_in_rows (mid.trees revs_tree) k id) a) (history_in_rows (mid.trees revs_tree) k id)) numbered follows)
     stored put

@@ -1,5 +1,5 @@
 -- Changes that index rows need not follow, and the removal of a database, which they follow.
-use Rattle.transactions.proofs.Common.{Bool, Changes, Clears, Database, HasCleanDisk, Held, IsStore, KeepsCommit, List, None, Option, Row, ap, arith, dbs_tree, docs_tree, entry_of, false, filter, history_in, is_in, is_of, locals_tree, map, not, refl, Replaces, revision_of, revs_tree, schema, state, sym, true, ℕ, ℤ, ◌∙◌, ◌≡◌, ◌≢◌}
+use Rattle.transactions.proofs.Common.{Bool, Changes, Clears, Database, HasCleanDisk, Held, IsStore, KeepsCommit, List, None, Option, Row, ap, arith, dbs_tree, docs_tree, entry_of, false, filter, history_in_rows, is_row_of_database, is_row_of_document, locals_tree, map, not, refl, Replaces, revision_of_row, revs_tree, schema, state, sym, true, ℕ, ℤ, ◌∙◌, ◌≡◌, ◌≢◌}
 use Rattle.std.specs.Prelude.{◌&&◌, bytes_eq, if◌then◌else◌, option_and_then, option_map}
 use Rattle.std.specs.FinMap.{empty, from_entries}
 use Rattle.std.specs.Ordering.{int_eq}
@@ -50,7 +50,7 @@ replaced_indexed db id number body a b is h was =
 -- what a database that is taken out leaves of what index rows look at
 pub record Remaining (db : ℤ) (old new : Database) : Type 0 where
   pub schema_is : new.schema ≡ schema
-  pub revs : new.trees revs_tree ≡ filter (λ r. not (is_in db r)) (old.trees revs_tree)
+  pub revs : new.trees revs_tree ≡ filter (λ r. not (is_row_of_database db r)) (old.trees revs_tree)
   pub decls : new.trees decls_tree ≡ old.trees decls_tree
   pub entries : new.trees entries_tree ≡ old.trees entries_tree
 
@@ -65,7 +65,7 @@ remaining db a b is h =
     let dbs = leaves dbs_tree _ h.bare b third h.row in
     record {
       schema_is = h.row.schema ∙ third;
-      revs = dbs.revs (omega arith) ∙ locals.revs (omega arith) ∙ h.revisions.rows ∙ ap (filter (λ r. not (is_in db r))) (docs.revs (omega arith));
+      revs = dbs.revs (omega arith) ∙ locals.revs (omega arith) ∙ h.revisions.rows ∙ ap (filter (λ r. not (is_row_of_database db r))) (docs.revs (omega arith));
       decls = dbs.decls (omega arith) ∙ locals.decls (omega arith) ∙ revs.decls (omega arith) ∙ docs.decls (omega arith);
       entries = dbs.entries (omega arith) ∙ locals.entries (omega arith) ∙ revs.entries (omega arith) ∙ docs.entries (omega arith);
     }
@@ -75,11 +75,11 @@ pub remaining_indexed : (db : ℤ) (a b : Database) → Remaining db a b → IsI
 remaining_indexed db a b h was = indexed_still (declares_in a.trees) (sees_in a.trees) a.trees b.trees h.decls h.entries was
 
 -- the histories of another database are the same
-history_away : (db : ℤ) (revs : List Row) (n : ℤ) (id : List ℕ) → n ≢ db → history_in (filter (λ r. not (is_in db r)) revs) n id ≡ history_in revs n id
+history_away : (db : ℤ) (revs : List Row) (n : ℤ) (id : List ℕ) → n ≢ db → history_in_rows (filter (λ r. not (is_row_of_database db r)) revs) n id ≡ history_in_rows revs n id
 history_away db revs n id apart =
-    ap (λ l. from_entries (map (λ r. (revision_of r, entry_of r)) l))
-    (filter_apart (is_of n id) (is_in db)
-    (λ r passes. false_from_ne_true (is_in db r) (λ own. apart (sym (same_int (db_of r) n (and_parts (int_eq (db_of r) n) (bytes_eq (id_of r) id) passes).0) ∙ same_int (db_of r) db own)))
+    ap (λ l. from_entries (map (λ r. (revision_of_row r, entry_of r)) l))
+    (filter_apart (is_row_of_document n id) (is_row_of_database db)
+    (λ r passes. false_from_ne_true (is_row_of_database db r) (λ own. apart (sym (same_int (db_of r) n (and_parts (int_eq (db_of r) n) (bytes_eq (id_of r) id) passes).0) ∙ same_int (db_of r) db own)))
     revs)
 
 off : (b : Bool) → not b ≡ true → b ≡ false
@@ -87,11 +87,11 @@ off true h = sym h
 off false h = refl
 
 -- and those of its own are empty
-history_gone : (db : ℤ) (revs : List Row) (id : List ℕ) → history_in (filter (λ r. not (is_in db r)) revs) db id ≡ empty
+history_gone : (db : ℤ) (revs : List Row) (id : List ℕ) → history_in_rows (filter (λ r. not (is_row_of_database db r)) revs) db id ≡ empty
 history_gone db revs id =
-    ap (λ l. from_entries (map (λ r. (revision_of r, entry_of r)) l))
-    (filter_none (is_of db id) (filter (λ r. not (is_in db r)) revs)
-    (all_weaker (λ r. not (is_in db r) ≡ true) (λ r. is_of db id r ≡ false) (λ r kept. ap (λ b. b && bytes_eq (id_of r) id) (off (is_in db r) kept)) (filter (λ r. not (is_in db r)) revs) (passing (λ r. not (is_in db r)) revs)))
+    ap (λ l. from_entries (map (λ r. (revision_of_row r, entry_of r)) l))
+    (filter_none (is_row_of_document db id) (filter (λ r. not (is_row_of_database db r)) revs)
+    (all_weaker (λ r. not (is_row_of_database db r) ≡ true) (λ r. is_row_of_document db id r ≡ false) (λ r kept. ap (λ b. b && bytes_eq (id_of r) id) (off (is_row_of_database db r) kept)) (filter (λ r. not (is_row_of_database db r)) revs) (passing (λ r. not (is_row_of_database db r)) revs)))
 
 neither : {A : Type 0} (b : Bool) → if◌then◌else◌ {A = Option A} b None None ≡ None
 neither true = refl
@@ -111,11 +111,11 @@ removed_indexed db a b c left dropped =
     (λ n id apart. ap (queried_document id) (sym (away n id apart))))
     (declares_in c.trees) (sees_in c.trees) declares (λ n id. refl)
   where
-    revs : c.trees revs_tree ≡ filter (λ r. not (is_in db r)) (a.trees revs_tree)
+    revs : c.trees revs_tree ≡ filter (λ r. not (is_row_of_database db r)) (a.trees revs_tree)
     revs = (same_tables b c left.schema_is dropped.only).revs ∙ left.revs
 
-    away : (n : ℤ) (id : List ℕ) → n ≢ db → history_in (c.trees revs_tree) n id ≡ history_in (a.trees revs_tree) n id
-    away n id apart = ap (λ rows. history_in rows n id) revs ∙ history_away db (a.trees revs_tree) n id apart
+    away : (n : ℤ) (id : List ℕ) → n ≢ db → history_in_rows (c.trees revs_tree) n id ≡ history_in_rows (a.trees revs_tree) n id
+    away n id apart = ap (λ rows. history_in_rows rows n id) revs ∙ history_away db (a.trees revs_tree) n id apart
 
     declares : (n : ℤ) (design name : List ℕ) → without_declared (declares_in a.trees) db n design name ≡ declares_in c.trees n design name
     declares n design name = by (int_eq n db) refl
@@ -123,8 +123,8 @@ removed_indexed db a b c left dropped =
         by : (b : Bool) → int_eq n db ≡ b → (if b then None else declares_in a.trees n design name) ≡ declares_in c.trees n design name
         by true is =
             sym
-            (ap (λ m. index_fields_of design (history_in (c.trees revs_tree) m design) name) (same_int n db is)
-            ∙ ap (λ rows. index_fields_of design (history_in rows db design) name) revs ∙ ap (λ h. index_fields_of design h name) (history_gone db (a.trees revs_tree) design)
+            (ap (λ m. index_fields_of design (history_in_rows (c.trees revs_tree) m design) name) (same_int n db is)
+            ∙ ap (λ rows. index_fields_of design (history_in_rows rows db design) name) revs ∙ ap (λ h. index_fields_of design h name) (history_gone db (a.trees revs_tree) design)
             ∙ nothing_there design name)
         by false is = ap (λ h. index_fields_of design h name) (sym (away n design (λ same. let yes = (Decides-int_eq n db).1 same in cc)))
 

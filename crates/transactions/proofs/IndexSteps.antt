@@ -1,5 +1,5 @@
 -- Tables of which the index rows alone have changed; and what one write leaves of what is declared and of what queries see.
-use Rattle.transactions.proofs.Common.{Bool, HasWritten, HistoryContent, IsStore, List, None, Option, Row, Some, Trees, ap, arith, bytes_eq-Decides, database_of, dbs_tree, docs_tree, false, filter, history_in, length, number_of, refl, revs_tree, schema, slice_get, subst, sym, true, ℕ, ℤ, ◌∙◌, ◌≡◌, ◌≢◌}
+use Rattle.transactions.proofs.Common.{Bool, HasWritten, HistoryContent, IsStore, List, None, Option, Row, Some, Trees, ap, arith, bytes_eq-Decides, database_of_row, dbs_tree, docs_tree, false, filter, history_in_rows, length, number_of, refl, revs_tree, schema, slice_get, subst, sym, true, ℕ, ℤ, ◌∙◌, ◌≡◌, ◌≢◌}
 use Rattle.std.specs.Prelude.{◌&&◌, bytes_eq, if◌then◌else◌}
 use Rattle.std.specs.Ordering.{int_eq}
 use Rattle.couch_json.specs.Value.{Value}
@@ -13,7 +13,7 @@ use Rattle.index.specs.Indexed.{AreEntriesOf, AreIndexed, IsIndexed, is_due}
 use Rattle.index.specs.Layout.{AreDeclarationRows, AreEntryRows, HasIndexRows}
 use Rattle.std.proofs.lemmas.List.{nil_from_length}
 use Rattle.std.proofs.lemmas.Bool.Decides.{nat_tests}
-use Rattle.index.specs.Rows.{declared_by, design_of, fields_of, has_entry, index_name_of, is_at_home, is_declaration_of}
+use Rattle.index.specs.Rows.{declared_by, design_of, fields_of, has_entry, index_name_of_row, is_at_home, is_declaration_of}
 use Rattle.index.specs.Shown.{Declared, declared_at}
 use Rattle.index.proofs.Going.{declarations_stay, refreshed}
 use Rattle.sqlite_keyed.proofs.ListLemmas.{all_weaker}
@@ -33,7 +33,7 @@ use Rattle.tables.proofs.DocumentWriteHistories.{history_others}
 use Rattle.tables.proofs.DocumentWriteSteps.{revisions_changed}
 use Rattle.tables.proofs.Rests.{AreSame, contents_same, leaves}
 use Rattle.tables.specs.Edits.{IsWrite, history_before, new_entries}
-use Rattle.tables.specs.Rows.{documents_in, is_named, length_of, locals_in, security_of}
+use Rattle.tables.specs.Rows.{documents_in_rows, is_named, sequence_of_database, locals_in, security_of}
 use Rattle.tables.specs.Edits.{row_after}
 use Rattle.tables.specs.Schema.{decls_tree, entries_tree}
 
@@ -45,9 +45,9 @@ same_tables old new is h = same_beside old new is h
 pub store_still : (old new : sqlite.Database) → IsStore old → ChangesIndexes old new → IsStore new
 store_still old new is h = store_rebuilt old new is h
 
-pub database_still : (a b : Trees) (r : Row) → AreSame a b → database_of b r ≡ database_of a r
+pub database_still : (a b : Trees) (r : Row) → AreSame a b → database_of_row b r ≡ database_of_row a r
 database_still a b r same =
-    λ i. record { length = length_of r; security = security_of r; locals = locals_in (same.locals i) (number_of r); documents = documents_in (same.docs i) (same.revs i) (number_of r) }
+    λ i. record { length = sequence_of_database r; security = security_of r; locals = locals_in (same.locals i) (number_of r); documents = documents_in_rows (same.docs i) (same.revs i) (number_of r) }
 
 pub written_still : (ws : List DocumentWrite) (name : List ℕ) (r : Row) (a b c : sqlite.Database) → HasWritten ws name r a b → ChangesIndexes b c → HasWritten ws name r a c
 written_still ws name r a b c h only =
@@ -65,7 +65,7 @@ written_still ws name r a b c h only =
 pub record Leaving (db : ℤ) (id : List ℕ) (old new : Trees) : Type 0 where
   pub decls : new decls_tree ≡ old decls_tree
   pub entries : new entries_tree ≡ old entries_tree
-  pub others : (n : ℤ) (other : List ℕ) → (int_eq db n && bytes_eq id other) ≡ false → history_in (new revs_tree) n other ≡ history_in (old revs_tree) n other
+  pub others : (n : ℤ) (other : List ℕ) → (int_eq db n && bytes_eq id other) ≡ false → history_in_rows (new revs_tree) n other ≡ history_in_rows (old revs_tree) n other
 
 pub write_leaves : (r : Row) (w : DocumentWrite) (a e : sqlite.Database) → a.schema ≡ schema → IsWrite r w a e → Leaving (number_of r) w.id a.trees e.trees
 write_leaves r w a e is h =
@@ -79,7 +79,7 @@ write_leaves r w a e is h =
       decls = d.decls (omega arith) ∙ c.decls (omega arith) ∙ b.decls (omega arith);
       entries = d.entries (omega arith) ∙ c.entries (omega arith) ∙ b.entries (omega arith);
       others = λ n other apart.
-          ap (λ rows. history_in rows n other) (revs ∙ one.rows)
+          ap (λ rows. history_in_rows rows n other) (revs ∙ one.rows)
           ∙ history_others (new_entries (history_before a.trees r w) w.write) (a.trees revs_tree) (number_of r) w.id n other apart;
     }
 
@@ -148,10 +148,10 @@ pub document_followed : (db : ℤ) (ids : List (List ℕ)) (id : List ℕ) (old 
 document_followed db ids id old written new plain was left decls same h = record {
   indexed = alike (declared_by (old decls_tree)) (with_seen (sees_in old) db id (sees_in written db id)) new h (declared_by (new decls_tree)) (sees_in new)
       (λ n design name. ap (λ rows. declared_by rows n design name) (sym decls))
-      (λ n other. sees_after db id old written left n other ∙ ap (λ rows. queried_document other (history_in rows n other)) (sym same));
+      (λ n other. sees_after db id old written left n other ∙ ap (λ rows. queried_document other (history_in_rows rows n other)) (sym same));
   declared = λ n design name out.
       ap (λ rows. declared_by rows n design name) decls ∙ was.declared n design name out ∙ document_declares db id old written plain left n design name
-      ∙ ap (λ rows. index_fields_of design (history_in rows n design) name) (sym same);
+      ∙ ap (λ rows. index_fields_of design (history_in_rows rows n design) name) (sym same);
   designs = was.designs;
 }
 
@@ -268,7 +268,7 @@ none_home db design name (r ∷ rows) is = by (is_at_home db r) refl is (none_ho
         → (filter (is_at_home db) rows ≡ [] → find (is_declaration_of db design name) rows ≡ None) → find (is_declaration_of db design name) (r ∷ rows) ≡ None
     by true home none more = absurd (cc)
     by false away none more =
-        ap (λ b. cond (b && (bytes_eq (design_of r) design && bytes_eq (index_name_of r) name)) (Some r) (find (is_declaration_of db design name) rows)) away ∙ more none
+        ap (λ b. cond (b && (bytes_eq (design_of r) design && bytes_eq (index_name_of_row r) name)) (Some r) (find (is_declaration_of db design name) rows)) away ∙ more none
 
 map_none : {A B : Type 0} (f : A → B) (xs : List A) → map f xs ≡ [] → xs ≡ []
 map_none f [] is = refl

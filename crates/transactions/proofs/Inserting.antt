@@ -1,5 +1,5 @@
 -- Revisions that are put in one after another.
-use Rattle.transactions.proofs.Common.{AreInserted, Bool, Changes, Database, Entry, Err, HistoryContent, IsOnTheWay, IsPlaced, List, None, Ok, OnOk, Option, Result, Revision, Some, [], ap, arith, cond, docs_tree, document_cells, drop, entries_before, false, get_or, is_known, is_of, length, next_of, not, refl, revision_cells, revs_tree, slice_get, subst, suc, sym, true, unknown_in, with_cells, Row, ℕ, ℤ, ◌++◌, ◌+◌, ◌<◌, ◌∙◌, ◌∷◌, ◌≡◌}
+use Rattle.transactions.proofs.Common.{AreInserted, Bool, Changes, Database, Entry, Err, HistoryContent, IsOnTheWay, IsPlaced, List, None, Ok, OnOk, Option, Result, Revision, Some, [], ap, arith, cond, docs_tree, document_cells, drop, entries_before, false, get_or, is_known, is_row_of_document, length, next_of, not, refl, revision_cells, revs_tree, slice_get, subst, suc, sym, true, unknown_in, with_cells, Row, ℕ, ℤ, ◌++◌, ◌+◌, ◌<◌, ◌∙◌, ◌∷◌, ◌≡◌}
 use Rattle.tables.specs.Rows.{rows_with_winner}
 use Rattle.std.specs.List.{list_any}
 use Rattle.std.proofs.lemmas.Bool.{cond-false, cond-true}
@@ -76,8 +76,8 @@ module _ {X E : Type 0} (r : Result X E) (db : ℤ) (id : List ℕ) (sequence : 
   abbrev changed : List Row
   changed = rows_with_winner db id sequence winner deleted (a.trees docs_tree)
 
-  pub placed_new : list_any (is_of db id) (a.trees docs_tree) ≡ false → OnOk r (Changes docs_tree put a b) → OnOk r (IsPlaced db id sequence winner deleted a b)
-  placed_new none = subst (λ rows. OnOk r (Changes docs_tree rows a b)) (sym (cond-false (list_any (is_of db id) (a.trees docs_tree)) changed put none))
+  pub placed_new : list_any (is_row_of_document db id) (a.trees docs_tree) ≡ false → OnOk r (Changes docs_tree put a b) → OnOk r (IsPlaced db id sequence winner deleted a b)
+  placed_new none = subst (λ rows. OnOk r (Changes docs_tree rows a b)) (sym (cond-false (list_any (is_row_of_document db id) (a.trees docs_tree)) changed put none))
 
-  pub placed_there : list_any (is_of db id) (a.trees docs_tree) ≡ true → OnOk r (Changes docs_tree changed a b) → OnOk r (IsPlaced db id sequence winner deleted a b)
-  placed_there there = subst (λ rows. OnOk r (Changes docs_tree rows a b)) (sym (cond-true (list_any (is_of db id) (a.trees docs_tree)) changed put there))
+  pub placed_there : list_any (is_row_of_document db id) (a.trees docs_tree) ≡ true → OnOk r (Changes docs_tree changed a b) → OnOk r (IsPlaced db id sequence winner deleted a b)
+  placed_there there = subst (λ rows. OnOk r (Changes docs_tree rows a b)) (sym (cond-true (list_any (is_row_of_document db id) (a.trees docs_tree)) changed put there))

@@ -19,6 +19,9 @@ pub mod NextWrites
 pub mod Undone
 pub mod DocumentWriting
 pub mod Committing
+pub mod AllWrites
+pub mod Readers
+pub mod Loading
 pub mod Ahead
 pub mod OtherRows
 pub mod HeldHistories

@@ -11,7 +11,7 @@ use Rattle.tables.proofs.Common.{is_named, name_of, row_at_sequence}
 use Rattle.tables.proofs.RowMaps.{filter_both}
 use Rattle.tables.proofs.DocumentWriteSteps.{revisions_changed}
 use Rattle.tables.specs.Edits.{IsWrite, history_before, new_entries}
-use Rattle.tables.specs.Rows.{length_of}
+use Rattle.tables.specs.Rows.{sequence_of_database}
 use Rattle.transactions.proofs.Ahead.{placed_dbs}
 use Rattle.transactions.proofs.IndexSteps.{same_tables}
 use Rattle.transactions.specs.Commits.{KeepsOthers}
@@ -55,12 +55,12 @@ written_schema r w old new is h =
 pub others_followed : (n : ℤ) (ids : List (List ℕ)) (r : Row) (w : DocumentWrite) (old new : Database) → n ≡ number_of r → old.schema ≡ schema → IsFollowed n ids r w old new → KeepsOthers n old new
 others_followed n ids r w old new numbered is h =
     let write = h.write in
-    let placed : IsPlacedWrite (number_of r) (pos (length_of r + 1)) w old write.placed =
+    let placed : IsPlacedWrite (number_of r) (pos (sequence_of_database r + 1)) w old write.placed =
     record { inserted = write.inserted; best = write.best; revisions = write.revisions; best_is = write.best_is; places = write.places } in
-    let rows : new.trees dbs_tree ≡ rows_at_sequence (number_of r) (pos (length_of r + 1)) (old.trees dbs_tree) =
+    let rows : new.trees dbs_tree ≡ rows_at_sequence (number_of r) (pos (sequence_of_database r + 1)) (old.trees dbs_tree) =
     (same_tables h.written new (written_schema r w old h.written is write) h.only).dbs ∙ write.advances.rows
-    ∙ ap (rows_at_sequence (number_of r) (pos (length_of r + 1))) (placed_dbs (number_of r) (pos (length_of r + 1)) w old write.placed is placed) in
-    subst (λ k. KeepsOthers k old new) (sym numbered) (ap (filter (is_other (number_of r))) rows ∙ moved_others (number_of r) (pos (length_of r + 1)) (old.trees dbs_tree))
+    ∙ ap (rows_at_sequence (number_of r) (pos (sequence_of_database r + 1))) (placed_dbs (number_of r) (pos (sequence_of_database r + 1)) w old write.placed is placed) in
+    subst (λ k. KeepsOthers k old new) (sym numbered) (ap (filter (is_other (number_of r))) rows ∙ moved_others (number_of r) (pos (sequence_of_database r + 1)) (old.trees dbs_tree))
 
 -- the rows of indexes alone are changed
 pub others_still : (n : ℤ) (old mid new : Database) → mid.schema ≡ schema → ChangesIndexes mid new → KeepsOthers n old mid → KeepsOthers n old new

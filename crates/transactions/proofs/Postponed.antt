@@ -1,5 +1,5 @@
 -- Design documents of a commit whose indexes follow them at its end.
-use Rattle.transactions.proofs.Common.{Bool, Database, IsStore, List, Option, Some, [], ap, bytes_eq-Decides, false, history_in, is_eq-slice_cmp, length, refl, revs_tree, subst, sym, true, ℕ, ℤ, ◌∙◌, ◌∷◌, ◌≡◌, ◌≢◌}
+use Rattle.transactions.proofs.Common.{Bool, Database, IsStore, List, Option, Some, [], ap, bytes_eq-Decides, false, history_in_rows, is_eq-slice_cmp, length, refl, revs_tree, subst, sym, true, ℕ, ℤ, ◌∙◌, ◌∷◌, ◌≡◌, ◌≢◌}
 use Rattle.std.specs.Prelude.{◌&&◌, ◌||◌, bytes_eq, if◌then◌else◌}
 use Rattle.std.specs.List.{list_any}
 use Rattle.std.specs.BTreeSet.{insert_key}
@@ -75,7 +75,7 @@ module _ (declares : Declarations) (sees : Documents) (db : ℤ) (bytes id : Lis
 -- ---- what is stored stays as the rows of indexes change
 
 pub stored_still : (a b : Database) → IsStore a → ChangesIndexes a b → (db : ℤ) (id name : List ℕ) → stored_fields db id b name ≡ stored_fields db id a name
-stored_still a b store only db id name = ap (λ rows. declared_if (winning_body (history_in rows db id)) name) (same_tables a b store.schema_is only).revs
+stored_still a b store only db id name = ap (λ rows. declared_if (winning_body (history_in_rows rows db id)) name) (same_tables a b store.schema_is only).revs
 
 -- one that is not left of several is not left of fewer, or is the one that is not left any more
 left_by : {P : Type 0} (id x : List ℕ) (left : List (List ℕ)) → list_any (bytes_eq id) left ≡ false → (id ≡ x → P) → (bytes_eq id x ≡ false → list_any (bytes_eq id) (x ∷ left) ≡ false → P) → P
@@ -214,7 +214,7 @@ module _ (db : ℤ) (ids : List (List ℕ)) (a : Database) (fit : IsIndexedStore
     pub caught_up : (fresh : List Declared) (c e : Database) → AreDeclaredAsStored (sees_in a.trees) db ids [] fresh b c → IsRebuilt (declared_by (c.trees decls_tree)) (sees_in a.trees) c e → IsCaughtUp a e
     caught_up fresh c e done got = record {
       indexed = alike (declared_by (c.trees decls_tree)) (sees_in a.trees) e.trees got.indexed (declares_in e.trees) (sees_in e.trees) (λ d o n. by d o n (is_postponed db ids d o) refl)
-          (λ d id. ap (λ rows. queried_document id (history_in rows d id)) (sym revs));
+          (λ d id. ap (λ rows. queried_document id (history_in_rows rows d id)) (sym revs));
       only = only;
     }
       where
@@ -225,14 +225,14 @@ module _ (db : ℤ) (ids : List (List ℕ)) (a : Database) (fit : IsIndexedStore
         revs = (same_tables a e fit.store.schema_is only).revs
 
         now : (d : ℤ) (o n : List ℕ) → declares_in a.trees d o n ≡ declares_in e.trees d o n
-        now d o n = ap (λ rows. index_fields_of o (history_in rows d o) n) (sym revs)
+        now d o n = ap (λ rows. index_fields_of o (history_in_rows rows d o) n) (sym revs)
 
         by : (d : ℤ) (o n : List ℕ) (w : Bool) → is_postponed db ids d o ≡ w → declared_by (c.trees decls_tree) d o n ≡ declares_in e.trees d o n
         by d o n true is =
             let parts = and_parts (int_eq d db) (list_any (bytes_eq o) ids) is in
             let at = same_int d db parts.0 in
             ap (λ m. declared_by (c.trees decls_tree) m o n) at ∙ done.own o n parts.1 refl ∙ stored_still a b fit.store made.rebuilt.only db o n
-            ∙ declared_by_winner o n (history_in (a.trees revs_tree) db o) (winning_body (history_in (a.trees revs_tree) db o)) (fit.indexed.designs o parts.1) refl ∙ ap (λ m. declares_in a.trees m o n) (sym at) ∙ now d o n
+            ∙ declared_by_winner o n (history_in_rows (a.trees revs_tree) db o) (winning_body (history_in_rows (a.trees revs_tree) db o)) (fit.indexed.designs o parts.1) refl ∙ ap (λ m. declares_in a.trees m o n) (sym at) ∙ now d o n
         by d o n false is = done.others d o n is ∙ made.others d o n is ∙ fit.indexed.declared d o n is ∙ now d o n
 
 -- ---- none of them

@@ -1,5 +1,5 @@
 -- Documents that declare anew what they declare, one after another.
-use Rattle.transactions.proofs.Common.{AllByRecursion, Bool, Database, IsAscending, IsStore, List, None, Option, Row, Trees, [], all-filter, ap, arith, cond, db_of, docs_tree, drop, false, filter, get_or, history_in, id_of, is_of, length, length-map, map, refl, revs_tree, subst, sym, true, ℕ, ℤ, ◌++◌, ◌+◌, ◌<◌, ◌∙◌, ◌∷◌, ◌≡◌, ◌≢◌}
+use Rattle.transactions.proofs.Common.{AllByRecursion, Bool, Database, IsAscending, IsStore, List, None, Option, Row, Trees, [], all-filter, ap, arith, cond, db_of, docs_tree, drop, false, filter, get_or, history_in_rows, id_of, is_row_of_document, length, length-map, map, refl, revs_tree, subst, sym, true, ℕ, ℤ, ◌++◌, ◌+◌, ◌<◌, ◌∙◌, ◌∷◌, ◌≡◌, ◌≢◌}
 use Rattle.std.specs.Prelude.{◌&&◌, ◌||◌, bytes_eq, codes, if◌then◌else◌, nat_eq, option_and_then}
 use Rattle.std.specs.Cmp.{first_so, second_so}
 use Rattle.std.specs.List.{list_any, starts_with}
@@ -55,18 +55,18 @@ module _ (d : Row) (left : List Row) (a : Database) (shown : Row) (fit : IsToRed
   }
     where
       same : (n : ℤ) (other name : List ℕ) → without_documents (declares_in a.trees) (d ∷ left) n other name ≡ without_documents (declares_in a.trees) left n other name
-      same n other name = by (is_of n other d) refl
+      same n other name = by (is_row_of_document n other d) refl
         where
-          by : (b : Bool) → is_of n other d ≡ b → (if (b || list_any (is_of n other) left) then None else declares_in a.trees n other name) ≡ without_documents (declares_in a.trees) left n other name
+          by : (b : Bool) → is_row_of_document n other d ≡ b → (if (b || list_any (is_row_of_document n other) left) then None else declares_in a.trees n other name) ≡ without_documents (declares_in a.trees) left n other name
           by true is =
               let own = of_these n other d is in
-              sym (hidden (list_any (is_of n other) left) (declares_in a.trees n other name) (undesigned other (ap is_design_id (sym own.1) ∙ plain) (history_in (a.trees revs_tree) n other) name))
+              sym (hidden (list_any (is_row_of_document n other) left) (declares_in a.trees n other name) (undesigned other (ap is_design_id (sym own.1) ∙ plain) (history_in_rows (a.trees revs_tree) n other) name))
           by false is = refl
 
   pub redeclared : (b : Database) → IsRedeclared (without_documents (declares_in a.trees) (d ∷ left)) (sees_in a.trees) (db_of d) (id_of d) a b → AreRedeclared left a b
   redeclared b made = record {
     indexed = alike (with_declared (without_documents (declares_in a.trees) (d ∷ left)) (db_of d) (id_of d) (λ name. declares_in a.trees (db_of d) (id_of d) name)) (sees_in a.trees) b.trees made.indexed
-        (without_documents (declares_in b.trees) left) (sees_in b.trees) same (λ n id. ap (λ rows. queried_document id (history_in rows n id)) (sym revs));
+        (without_documents (declares_in b.trees) left) (sees_in b.trees) same (λ n id. ap (λ rows. queried_document id (history_in_rows rows n id)) (sym revs));
     only = made.only;
   }
     where
@@ -75,22 +75,22 @@ module _ (d : Row) (left : List Row) (a : Database) (shown : Row) (fit : IsToRed
 
       same : (n : ℤ) (other name : List ℕ)
           → with_declared (without_documents (declares_in a.trees) (d ∷ left)) (db_of d) (id_of d) (λ name. declares_in a.trees (db_of d) (id_of d) name) n other name ≡ without_documents (declares_in b.trees) left n other name
-      same n other name = by (int_eq n (db_of d) && bytes_eq other (id_of d)) refl ∙ ap (λ rows. if list_any (is_of n other) left then None else index_fields_of other (history_in rows n other) name) (sym revs)
+      same n other name = by (int_eq n (db_of d) && bytes_eq other (id_of d)) refl ∙ ap (λ rows. if list_any (is_row_of_document n other) left then None else index_fields_of other (history_in_rows rows n other) name) (sym revs)
         where
           by : (b : Bool) → (int_eq n (db_of d) && bytes_eq other (id_of d)) ≡ b
               → (if b then declares_in a.trees (db_of d) (id_of d) name else without_documents (declares_in a.trees) (d ∷ left) n other name) ≡ without_documents (declares_in a.trees) left n other name
           by true is =
               let place = same_place (db_of d) (id_of d) n other is in
               sym (ap₂ (λ (m : ℤ) i. without_documents (declares_in a.trees) left m i name) place.0 place.1 ∙ ap (λ b. if b then None else declares_in a.trees (db_of d) (id_of d) name) fit.apart)
-          by false is = ap (λ b. if (b || list_any (is_of n other) left) then None else declares_in a.trees n other name) (other_place (db_of d) (id_of d) n other is)
+          by false is = ap (λ b. if (b || list_any (is_row_of_document n other) left) then None else declares_in a.trees n other name) (other_place (db_of d) (id_of d) n other is)
 
 -- ---- one document after another
 
 -- documents that come later are others
-docs_apart : (d : Row) (docs : List Row) → AllByRecursion (λ e. db_of d ≡ db_of e → id_of d ≢ id_of e) docs → list_any (is_of (db_of d) (id_of d)) docs ≡ false
+docs_apart : (d : Row) (docs : List Row) → AllByRecursion (λ e. db_of d ≡ db_of e → id_of d ≢ id_of e) docs → list_any (is_row_of_document (db_of d) (id_of d)) docs ≡ false
 docs_apart d [] all = refl
 docs_apart d (e ∷ docs) all =
-    ap (λ b. b || list_any (is_of (db_of d) (id_of d)) docs) (false_from_ne_true (is_of (db_of d) (id_of d) e) (λ same. let own = of_these (db_of d) (id_of d) e same in all.0 (sym own.0) (sym own.1)))
+    ap (λ b. b || list_any (is_row_of_document (db_of d) (id_of d)) docs) (false_from_ne_true (is_row_of_document (db_of d) (id_of d) e) (λ same. let own = of_these (db_of d) (id_of d) e same in all.0 (sym own.0) (sym own.1)))
     ∙ docs_apart d docs all.1
 
 module _ (rows docs : List Row) (i : ℕ) (s : Row) (below : i < length rows) (is : s ≡ get_or rows i s) (a b : Database) (fit : AreToRedeclare rows docs a) (made : AreRedeclared (drop i docs) a b) where
@@ -112,7 +112,7 @@ module _ (rows docs : List Row) (i : ℕ) (s : Row) (below : i < length rows) (i
       let same = same_tables a b fit.store.schema_is made.only in
       record {
         store = store_still a b fit.store made.only;
-        row = document_kept a.trees b.trees d (ap (λ l. length_at l (db_of d)) same.dbs) (ap (λ l. history_in l (db_of d) (id_of d)) same.revs) (all_get (IsDocumentRow a.trees) docs i [] within fit.rows);
+        row = document_kept a.trees b.trees d (ap (λ l. length_at l (db_of d)) same.dbs) (ap (λ l. history_in_rows l (db_of d) (id_of d)) same.revs) (all_get (IsDocumentRow a.trees) docs i [] within fit.rows);
         shown_is = is ∙ ap (λ l. get_or l i s) fit.shown_is ∙ get_map named_document docs i [] s within;
         apart = docs_apart d (drop (i + 1) docs) (subst (IsAscending Apart) cut (ascending-drop Apart i docs fit.apart)).0;
         indexed = subst (λ l. AreIndexed (without_documents (declares_in b.trees) l) (sees_in b.trees) b.trees) cut made.indexed;
@@ -160,15 +160,15 @@ of_ids = has_id_between [] (255 ∷ [])
 
 -- without those documents nothing is declared
 nothing_else : (a : Database) → IsStore a → (n : ℤ) (design name : List ℕ) → without_documents (declares_in a.trees) (filter of_ids (a.trees docs_tree)) n design name ≡ None
-nothing_else a store n design name = by (list_any (is_of n design) (filter of_ids (a.trees docs_tree))) refl
+nothing_else a store n design name = by (list_any (is_row_of_document n design) (filter of_ids (a.trees docs_tree))) refl
   where
-    declares : list_any (is_of n design) (filter of_ids (a.trees docs_tree)) ≡ false → (b : Bool) → is_design_id design ≡ b → declares_in a.trees n design name ≡ None
-    declares out false is = undesigned design is (history_in (a.trees revs_tree) n design) name
+    declares : list_any (is_row_of_document n design) (filter of_ids (a.trees docs_tree)) ≡ false → (b : Bool) → is_design_id design ≡ b → declares_in a.trees n design name ≡ None
+    declares out false is = undesigned design is (history_in_rows (a.trees revs_tree) n design) name
     declares out true is =
-        let no_row = any_kept (is_of n design) of_ids (λ r own. ap (is_between [] (255 ∷ [])) (of_these n design r own).1 ∙ design_between design is) (a.trees docs_tree) out in
+        let no_row = any_kept (is_row_of_document n design) of_ids (λ r own. ap (is_between [] (255 ∷ [])) (of_these n design r own).1 ∙ design_between design is) (a.trees docs_tree) out in
         ap (λ h. index_fields_of design h name) (nothing_written a.trees n design store.laid no_row) ∙ nothing_there design name
 
-    by : (b : Bool) → list_any (is_of n design) (filter of_ids (a.trees docs_tree)) ≡ b → (if b then None else declares_in a.trees n design name) ≡ None
+    by : (b : Bool) → list_any (is_row_of_document n design) (filter of_ids (a.trees docs_tree)) ≡ b → (if b then None else declares_in a.trees n design name) ≡ None
     by true is = refl
     by false is = declares is (is_design_id design) refl
 

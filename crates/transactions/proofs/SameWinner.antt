@@ -1,5 +1,5 @@
 -- A design document that has the winner that it had declares what it declared.
-use Rattle.transactions.proofs.Common.{Addition, Bool, Database, Entry, HistoryContent, IsWrite, List, None, Option, Revision, Row, Some, [], ap, bytes_eq-Decides, cond, entry_of, false, filter, history_in, inl, inr, is_known, is_of, map, map-append, number_of, option_map, refl, revision_cells, revision_cmp, revision_cmp_total, revision_of, revs_tree, schema, subst, sym, true, with_cells, ℕ, ℤ, ◌++◌, ◌∙◌, ◌∷◌, ◌≡◌}
+use Rattle.transactions.proofs.Common.{Addition, Bool, Database, Entry, HistoryContent, IsWrite, List, None, Option, Revision, Row, Some, [], ap, bytes_eq-Decides, cond, entry_of, false, filter, history_in_rows, inl, inr, is_known, is_row_of_document, map, map-append, number_of, option_map, refl, revision_cells, revision_cmp, revision_cmp_total, revision_of_row, revs_tree, schema, subst, sym, true, with_cells, ℕ, ℤ, ◌++◌, ◌∙◌, ◌∷◌, ◌≡◌}
 use Rattle.std.proofs.Common.{ap₂}
 use Rattle.std.proofs.lemmas.List.Elements.{filter-append}
 use Rattle.std.specs.FinMap.{find, get, get-from_entries}
@@ -64,34 +64,34 @@ module _ (h k : HistoryContent) (kept : (r : Revision) → is_known h r ≡ true
 -- ---- the rows of revisions
 
 abbrev node : Row → Revision × Entry
-node r = (revision_of r, entry_of r)
+node r = (revision_of_row r, entry_of r)
 
 first : (o p : Option Entry) → is_some o ≡ true → or o p ≡ o
 first None p is = cc
 first (Some x) p is = refl
 
-one_more : (rows : List Row) (x : Row) (db : ℤ) (id : List ℕ) (r : Revision) → is_known (history_in rows db id) r ≡ true → get (history_in (rows ++ x ∷ []) db id) r ≡ get (history_in rows db id) r
+one_more : (rows : List Row) (x : Row) (db : ℤ) (id : List ℕ) (r : Revision) → is_known (history_in_rows rows db id) r ≡ true → get (history_in_rows (rows ++ x ∷ []) db id) r ≡ get (history_in_rows rows db id) r
 one_more rows x db id r known =
-    let old = map node (filter (is_of db id) rows) in
-    let new = map node (filter (is_of db id) (x ∷ [])) in
-    get-from_entries revision_cmp_total (map node (filter (is_of db id) (rows ++ x ∷ []))) r
-    ∙ ap (find revision_cmp r) (ap (map node) (filter-append (is_of db id) rows (x ∷ [])) ∙ map-append node (filter (is_of db id) rows) (filter (is_of db id) (x ∷ [])))
+    let old = map node (filter (is_row_of_document db id) rows) in
+    let new = map node (filter (is_row_of_document db id) (x ∷ [])) in
+    get-from_entries revision_cmp_total (map node (filter (is_row_of_document db id) (rows ++ x ∷ []))) r
+    ∙ ap (find revision_cmp r) (ap (map node) (filter-append (is_row_of_document db id) rows (x ∷ [])) ∙ map-append node (filter (is_row_of_document db id) rows) (filter (is_row_of_document db id) (x ∷ [])))
     ∙ find-append r old new
     ∙ first (find revision_cmp r old) (find revision_cmp r new) (ap is_some (sym (get-from_entries revision_cmp_total old r)) ∙ known)
     ∙ sym (get-from_entries revision_cmp_total old r)
 
 -- rows that are put in leave what is known of a revision
-several_more : (es : List (Revision × Entry)) (rows : List Row) (db : ℤ) (id : List ℕ) (r : Revision) → is_known (history_in rows db id) r ≡ true → get (history_in (with_revisions rows db id es) db id) r ≡ get (history_in rows db id) r
+several_more : (es : List (Revision × Entry)) (rows : List Row) (db : ℤ) (id : List ℕ) (r : Revision) → is_known (history_in_rows rows db id) r ≡ true → get (history_in_rows (with_revisions rows db id es) db id) r ≡ get (history_in_rows rows db id) r
 several_more [] rows db id r known = refl
 several_more (e ∷ es) rows db id r known =
     let one = one_more rows _ db id r known in
     several_more es (with_cells rows (revision_cells db id e.0 e.1)) db id r (ap is_some one ∙ known) ∙ one
 
 -- so does a write
-known_stays : (r : Row) (w : DocumentWrite) (a e : Database) → a.schema ≡ schema → IsWrite r w a e → (v : Revision) → is_known (history_in (a.trees revs_tree) (number_of r) w.id) v ≡ true
-    → get (history_in (e.trees revs_tree) (number_of r) w.id) v ≡ get (history_in (a.trees revs_tree) (number_of r) w.id) v
+known_stays : (r : Row) (w : DocumentWrite) (a e : Database) → a.schema ≡ schema → IsWrite r w a e → (v : Revision) → is_known (history_in_rows (a.trees revs_tree) (number_of r) w.id) v ≡ true
+    → get (history_in_rows (e.trees revs_tree) (number_of r) w.id) v ≡ get (history_in_rows (a.trees revs_tree) (number_of r) w.id) v
 known_stays r w a e is h v known =
-    ap (λ rows. get (history_in rows (number_of r) w.id) v) (written r w a e is h).revs
+    ap (λ rows. get (history_in_rows rows (number_of r) w.id) v) (written r w a e is h).revs
     ∙ several_more (new_entries (history_before a.trees r w) w.write) (a.trees revs_tree) (number_of r) w.id v known
 
 -- ---- a design document
@@ -101,11 +101,11 @@ fields_by design name body = if is_design_id design then option_and_then (λ b. 
 
 -- a write that leaves the winner leaves what is declared
 pub declared_still : (r : Row) (a : Addition) (old written : Database) → old.schema ≡ schema → IsWrite r (write_in old.trees r a) old written
-    → marked_winner (history_in (old.trees revs_tree) (number_of r) a.id) ≡ marked_winner (history_in (written.trees revs_tree) (number_of r) a.id)
+    → marked_winner (history_in_rows (old.trees revs_tree) (number_of r) a.id) ≡ marked_winner (history_in_rows (written.trees revs_tree) (number_of r) a.id)
     → (name : List ℕ) → declares_in old.trees (number_of r) a.id name ≡ declares_in written.trees (number_of r) a.id name
 declared_still r a old written is write same name =
-    let H = history_in (old.trees revs_tree) (number_of r) a.id in
-    let K = history_in (written.trees revs_tree) (number_of r) a.id in
+    let H = history_in_rows (old.trees revs_tree) (number_of r) a.id in
+    let K = history_in_rows (written.trees revs_tree) (number_of r) a.id in
     ap (fields_by a.id name) (sym (same_body H K (known_stays r (write_in old.trees r a) old written is write) same))
 
 -- ---- what is postponed
@@ -117,7 +117,7 @@ both_false true false z w is out = sym is ∙ out
 
 -- a design document was written, which had this winner: its indexes wait, if it has another
 module _ (r : Row) (a : Addition) (db : ℤ) (ids more : List (List ℕ)) (won : Option MarkedRev) (old written : Database) (was : IsIndexedStoreBut db ids old) (design : is_design_id a.id ≡ true) (numbered : db ≡ number_of r)
-    (write : IsWrite r (write_in old.trees r a) old written) (before : won ≡ marked_winner (history_in (old.trees revs_tree) db a.id)) where
+    (write : IsWrite r (write_in old.trees r a) old written) (before : won ≡ marked_winner (history_in_rows (old.trees revs_tree) db a.id)) where
   left : Leaving db a.id old.trees written.trees
   left = subst (λ n. Leaving n a.id old.trees written.trees) (sym numbered) (write_leaves r (write_in old.trees r a) old written was.store.schema_is write)
 
@@ -126,17 +126,17 @@ module _ (r : Row) (a : Addition) (db : ℤ) (ids more : List (List ℕ)) (won :
   still n other apart out name = was.indexed.declared n other name out ∙ ap (λ h. index_fields_of other h name) (sym (left.others n other (other_place db a.id n other apart)))
 
   -- and of this one, where it has the same winner
-  same_there : won ≡ marked_winner (history_in (written.trees revs_tree) db a.id) → (n : ℤ) (other : List ℕ) → (int_eq n db && bytes_eq other a.id) ≡ true → is_postponed db ids n other ≡ false → (name : List ℕ)
+  same_there : won ≡ marked_winner (history_in_rows (written.trees revs_tree) db a.id) → (n : ℤ) (other : List ℕ) → (int_eq n db && bytes_eq other a.id) ≡ true → is_postponed db ids n other ≡ false → (name : List ℕ)
       → declared_by (old.trees decls_tree) n other name ≡ declares_in written.trees n other name
   same_there after n other here out name =
       let place = same_place db a.id n other here in
       let same = sym before ∙ after in
       was.indexed.declared n other name out
       ∙ ap₂ (λ (m : ℤ) i. declares_in old.trees m i name) (place.0 ∙ numbered) place.1
-      ∙ declared_still r a old written was.store.schema_is write (ap (λ n. marked_winner (history_in (old.trees revs_tree) n a.id)) (sym numbered) ∙ same ∙ ap (λ n. marked_winner (history_in (written.trees revs_tree) n a.id)) numbered) name
+      ∙ declared_still r a old written was.store.schema_is write (ap (λ n. marked_winner (history_in_rows (old.trees revs_tree) n a.id)) (sym numbered) ∙ same ∙ ap (λ n. marked_winner (history_in_rows (written.trees revs_tree) n a.id)) numbered) name
       ∙ ap₂ (λ (m : ℤ) i. declares_in written.trees m i name) (sym numbered ∙ sym place.0) (sym place.1)
 
-  declared_after : IsNoted db a.id won ids more written → (n : ℤ) (other name : List ℕ) → is_postponed db more n other ≡ false → declared_by (old.trees decls_tree) n other name ≡ declares_in written.trees n other name
+  declared_after : IsNoted db a.id won ids more written.trees → (n : ℤ) (other name : List ℕ) → is_postponed db more n other ≡ false → declared_by (old.trees decls_tree) n other name ≡ declares_in written.trees n other name
   declared_after (inl noted) n other name out = by (int_eq n db && bytes_eq other a.id) refl
     where
       kept : is_postponed db ids n other ≡ false
@@ -154,7 +154,7 @@ module _ (r : Row) (a : Addition) (db : ℤ) (ids more : List (List ℕ)) (won :
           absurd (let no : true ≡ false = sym among ∙ out in cc)
       by false apart = still n other apart (both_false (int_eq n db) (bytes_eq other a.id) (list_any (bytes_eq other) more) (list_any (bytes_eq other) ids) (with other) out) name
 
-  designs_after : IsNoted db a.id won ids more written → (id : List ℕ) → list_any (bytes_eq id) more ≡ true → is_design_id id ≡ true
+  designs_after : IsNoted db a.id won ids more written.trees → (id : List ℕ) → list_any (bytes_eq id) more ≡ true → is_design_id id ≡ true
   designs_after (inl noted) id is = was.indexed.designs id (ap (list_any (bytes_eq id)) (sym noted.1) ∙ is)
   designs_after (inr with) id is = by (bytes_eq id a.id) refl (sym (with id) ∙ is)
     where
@@ -162,7 +162,7 @@ module _ (r : Row) (a : Addition) (db : ℤ) (ids more : List (List ℕ)) (won :
       by true own h = ap is_design_id ((bytes_eq-Decides id a.id).0 own) ∙ design
       by false other h = was.indexed.designs id h
 
-  pub design_postponed : IsNoted db a.id won ids more written → IsFollowed db more r (write_in old.trees r a) old written × (written.trees decls_tree ≡ old.trees decls_tree)
+  pub design_postponed : IsNoted db a.id won ids more written.trees → IsFollowed db more r (write_in old.trees r a) old written × (written.trees decls_tree ≡ old.trees decls_tree)
   design_postponed noted = (
     record {
       written = written;

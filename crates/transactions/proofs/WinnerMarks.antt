@@ -1,5 +1,5 @@
 -- The row of the winner's revision holds something, under the mark that the document's row has.
-use Rattle.transactions.proofs.Common.{None, Some, AllByRecursion, Bool, Damaged, IsLaid, List, Option, Revision, Row, StoreFault, Trees, [], all-filter, all_map, ap, filter, history_in, map, option_map, refl, revs_tree, shown_revision, slice_get, subst, sym, true, false, ℕ, ℤ, ◌∙◌, ◌∷◌, ◌≡◌}
+use Rattle.transactions.proofs.Common.{None, Some, AllByRecursion, Bool, Damaged, IsWellFormed, List, Option, Revision, Row, StoreFault, Trees, [], all-filter, all_map, ap, filter, history_in_rows, map, option_map, refl, revs_tree, shown_revision, slice_get, subst, sym, true, false, ℕ, ℤ, ◌∙◌, ◌∷◌, ◌≡◌}
 use Rattle.std.specs.FinMap as finite
 use Rattle.std.specs.Prelude.{if◌then◌else◌, is_some, option_and_then}
 use Rattle.couch_json.specs.Value as json
@@ -8,7 +8,7 @@ use Rattle.store.specs.declared.fault.StoreFault.TheVariants as store
 use Rattle.store.specs.Winning.{IsHeldSo}
 use Rattle.tables.proofs.HeldWinners.{winner_is_held}
 use Rattle.tables.proofs.Laid.{shown_outlines}
-use Rattle.tables.specs.Rows.{is_revision_of, is_set, json_in, shown_outline}
+use Rattle.tables.specs.Rows.{is_revision_of, is_set, json_in_cell, shown_outline}
 use Rattle.tables.specs.Shown.{IsShownOutline, held_shown, mark_shown}
 use Rattle.tree.proofs.Revisions.{same}
 use Rattle.tree.proofs.Shown.{inside}
@@ -37,7 +37,7 @@ lost_damaged sound fault is not = subst (IsLost sound) (sym is) not
 mark_of_held : (r : Row) → mark_shown (shown_outline r) ≡ option_map (λ (h : Bool × json.Value). h.0) (held_shown (shown_revision r))
 mark_of_held r = by (is_set (column r 6))
   where
-    by : (b : Bool) → (if b then Some (is_set (column r 7)) else None) ≡ option_map (λ (h : Bool × json.Value). h.0) (if b then Some (is_set (column r 7), json_in (column r 8)) else None)
+    by : (b : Bool) → (if b then Some (is_set (column r 7)) else None) ≡ option_map (λ (h : Bool × json.Value). h.0) (if b then Some (is_set (column r 7), json_in_cell (column r 8)) else None)
     by true = refl
     by false = refl
 
@@ -51,12 +51,12 @@ marked_row : (rows : List Row) (deleted : Bool) (body : json.Value) → option_a
 marked_row [] deleted body is = absurd (cc)
 marked_row (r ∷ rows) deleted body is = record { row = shown_outline r; first = refl; mark = mark_of_held r ∙ held_mark (held_shown (shown_revision r)) deleted body is }
 
-pub outlines_intact : (trees : Trees) (p : Row → Bool) (rows : List Row) → IsLaid trees → rows ≡ map shown_outline (filter p (trees revs_tree)) → AllByRecursion IsShownOutline rows
+pub outlines_intact : (trees : Trees) (p : Row → Bool) (rows : List Row) → IsWellFormed trees → rows ≡ map shown_outline (filter p (trees revs_tree)) → AllByRecursion IsShownOutline rows
 outlines_intact trees p rows l is = subst (AllByRecursion IsShownOutline) (sym is) (all_map IsShownOutline shown_outline _ (all-filter _ p _ (shown_outlines trees l)))
 
-module _ (trees : Trees) (db : ℤ) (id : List ℕ) (l : IsLaid trees) where
+module _ (trees : Trees) (db : ℤ) (id : List ℕ) (l : IsWellFormed trees) where
   abbrev H : HistoryContent
-  H = history_in (trees revs_tree) db id
+  H = history_in_rows (trees revs_tree) db id
 
   pub winner_has_mark : (w : MarkedRev) → marked_winner H ≡ Some w → HasMark w.deleted (map shown_outline (filter (is_revision_of db id w.rev) (trees revs_tree)))
   winner_has_mark w won =

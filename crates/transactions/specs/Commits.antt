@@ -11,7 +11,7 @@ use Rattle.store.specs.Contents.{AreAcceptable}
 use Rattle.store.specs.Plain.{with_addition}
 use Rattle.store.specs.Writing.{Addition, writings_in}
 use Rattle.tables.specs.Layout.{IsStore}
-use Rattle.tables.specs.Rows.{database_of, has_number, history_in, is_named, length_of, number_of}
+use Rattle.tables.specs.Rows.{database_of_row, has_number, history_in_rows, is_named, sequence_of_database, number_of}
 use Rattle.tables.specs.Schema.{dbs_tree, revs_tree}
 use Rattle.tree.specs.History.{HistoryContent}
 use Rattle.transactions.specs.Reading.{IsLost}
@@ -23,8 +23,8 @@ pub record AreDue (all : List Addition) (name : List ℕ) (number : ℤ) (sequen
   pub row : Row
   pub first : slice_get (filter (is_named name) (trees dbs_tree)) 0 ≡ Some row
   pub numbered : number_of row ≡ number
-  pub counted : length_of row ≡ sequence
-  pub acceptable : AreAcceptable (database_of trees row) (writings_in (database_of trees row) all)
+  pub counted : sequence_of_database row ≡ sequence
+  pub acceptable : AreAcceptable (database_of_row trees row) (writings_in (database_of_row trees row) all)
 
 -- the rows of all databases but the one of this number are as they were
 abbrev pub KeepsOthers : ℤ → Database → Database → Type 0
@@ -36,7 +36,7 @@ IsSound g Holds old new = HasCleanDisk (state g new) × (IsTrue (state g old).is
 
 -- the history of the write's document, with the write
 abbrev pub history_with : Trees → ℤ → Addition → HistoryContent
-history_with trees db a = with_addition (history_in (trees revs_tree) db a.id) a
+history_with trees db a = with_addition (history_in_rows (trees revs_tree) db a.id) a
 
 -- why writes were not done: a statement failed, memory ran out, or what was read is not intact
 abbrev pub IsUnwritten : Type 0 → CommitFault → Type 0

@@ -14,7 +14,7 @@ use Rattle.store.specs.Database.{DocumentWrite}
 use Rattle.store.specs.Writing.{Addition, written_in}
 use Rattle.tables.specs.Edits.{IsWrite}
 use Rattle.tables.specs.Layout.{IsStore}
-use Rattle.tables.specs.Rows.{history_in, length_of, number_of}
+use Rattle.tables.specs.Rows.{history_in_rows, sequence_of_database, number_of}
 use Rattle.tables.specs.Schema.{decls_tree, revs_tree}
 use Rattle.index.specs.Calls.{ChangesIndexes}
 use Rattle.index.specs.Indexed.{AreIndexed, IsIndexed}
@@ -49,7 +49,7 @@ AreKnownIndexes known db trees = IfSome known (λ all. AreAllIndexes (map declar
 
 -- the write of a document in the database that has this row
 abbrev pub write_in : Trees → Row → Addition → DocumentWrite
-write_in trees r a = written_in (history_in (trees revs_tree) (number_of r) a.id) a
+write_in trees r a = written_in (history_in_rows (trees revs_tree) (number_of r) a.id) a
 
 -- the design document of this id in the database of the number d is one of these of the database of the other
 abbrev pub is_postponed : ℤ → List (List ℕ) → ℤ → List ℕ → Bool
@@ -80,17 +80,25 @@ abbrev pub IsWithId : List ℕ → List (List ℕ) → List (List ℕ) → Type 
 IsWithId id old new = (other : List ℕ) → list_any (bytes_eq other) new ≡ (bytes_eq other id || list_any (bytes_eq other) old)
 
 -- a design document that had this winner has it still, or is among these now
-abbrev pub IsNoted : ℤ → List ℕ → Option MarkedRev → List (List ℕ) → List (List ℕ) → Database → Type 0
-IsNoted db id winner old new b = ((winner ≡ marked_winner (history_in (b.trees revs_tree) db id)) × (new ≡ old)) ⊎ IsWithId id old new
+abbrev pub IsNoted : ℤ → List ℕ → Option MarkedRev → List (List ℕ) → List (List ℕ) → Trees → Type 0
+IsNoted db id winner old new trees = ((winner ≡ marked_winner (history_in_rows (trees revs_tree) db id)) × (new ≡ old)) ⊎ IsWithId id old new
 
--- The write may be done under this sequence: its database has this row, the path of the write has its place, and what it leaves is a store
--- if rows can say what it says.
+-- what the write leaves in the database that has this row is a store, if rows can say what it says
+abbrev pub LeavesStore : Row → Addition → Database → Type 0
+LeavesStore row a old = IsLawfulAddition a → (written : Database) → IsWrite row (write_in old.trees row a) old written → IsStore written
+
+-- The write may be done under this sequence. As an example, a database has the number 3, and 7 is its last sequence: then 8 is the next one, and the
+-- path 2-b, 1-a has its place where the history of the document knows 1-a and not 2-b.
 pub record MayBeWritten (db sequence : ℤ) (a : Addition) (old : Database) : Type 0 where
+  -- this is the row of the database
   pub row : Row
   pub numbered : db ≡ number_of row
-  pub at : sequence ≡ pos (length_of row + 1)
-  pub placed : HasPlaceFor (history_in (old.trees revs_tree) (number_of row) a.id) a
-  pub store : IsLawfulAddition a → (written : Database) → IsWrite row (write_in old.trees row a) old written → IsStore written
+  -- the sequence is the next one
+  pub at : sequence ≡ pos (sequence_of_database row + 1)
+  -- the path of the write has its place
+  pub placed : HasPlaceFor (history_in_rows (old.trees revs_tree) (number_of row) a.id) a
+  -- and the tables are a store with it
+  pub store : LeavesStore row a old
 
 -- the disk returned what was written, and an open connection had tables and index rows that were sound, of which this held
 abbrev pub IsSoundIndexed : {S : Type 0} → Ghosts S → (Database → Type 0) → Held S → Held S → Type 0

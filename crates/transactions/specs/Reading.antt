@@ -6,7 +6,7 @@ use Rattle.couch_json.specs.Value.{null}
 use Rattle.store.specs.declared.fault.StoreFault.{StoreFault}
 use Rattle.store.specs.declared.fault.StoreFault.TheVariants.{Memory, Failed, NoDatabase, Exists, Damaged, Full}
 use Rattle.sqlite_value.specs.Order.{Row}
-use Rattle.tree.specs.History.{HistoryContent, row_of, winner, with_entries}
+use Rattle.tree.specs.History.{HistoryContent, entry_of_row, winner, with_entries}
 use Rattle.tree.specs.Revision.{Revision}
 use Rattle.tree.specs.declared.entry.Entry.{Entry}
 use Rattle.tree.specs.declared.marked_rev.MarkedRev.{MarkedRev}
@@ -50,7 +50,7 @@ store_fault_of history.Damaged = Damaged
 
 -- a known revision
 abbrev pub entry_shown : Row → Revision × Entry
-entry_shown s = (revision_shown s, row_of (parent_shown s) (held_shown s))
+entry_shown s = (revision_shown s, entry_of_row (parent_shown s) (held_shown s))
 
 -- what is known of a revision, of what a query shows of its row
 abbrev pub known_shown : Row → Entry
@@ -62,7 +62,7 @@ history_shown rows = with_entries finite.empty (map entry_shown rows)
 
 -- a known revision without its body
 abbrev pub node_shown : Row → Revision × Entry
-node_shown s = (revision_shown s, row_of (parent_shown s) (option_map (λ deleted. (deleted, null)) (mark_shown s)))
+node_shown s = (revision_shown s, entry_of_row (parent_shown s) (option_map (λ deleted. (deleted, null)) (mark_shown s)))
 
 -- the outline that the rows make
 abbrev pub outline_shown : List Row → HistoryContent

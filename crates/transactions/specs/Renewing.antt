@@ -7,7 +7,7 @@ use Rattle.sqlite_trees.specs.Tree.{IsAscending}
 use Rattle.sqlite_value.specs.Order.{Row, column}
 use Rattle.tables.specs.Layout.{IsDocumentRow, IsStore}
 use Rattle.tables.specs.Listings.{SpellsId, named_document}
-use Rattle.tables.specs.Rows.{contents_in, db_of, id_of, is_of}
+use Rattle.tables.specs.Rows.{contents_in, db_of, id_of, is_row_of_document}
 use Rattle.tables.specs.Schema.{decls_tree, entries_tree}
 use Rattle.tables.specs.Shown.{IsWhole}
 use Rattle.index.specs.Calls.{ChangesIndexes}
@@ -34,7 +34,7 @@ pub record IsShownName (s : Row) : Type 0 where
 
 -- the documents of these rows declare nothing
 abbrev pub without_documents : Declarations → List Row → Declarations
-without_documents declares left db design name = if list_any (is_of db design) left then None else declares db design name
+without_documents declares left db design name = if list_any (is_row_of_document db design) left then None else declares db design name
 
 -- the rows of indexes are those of what is stored, but that the documents of these rows declare nothing; and no other table has changed
 pub record AreRedeclared (left : List Row) (old new : Database) : Type 0 where
@@ -46,7 +46,7 @@ pub record IsToRedeclare (shown d : Row) (left : List Row) (b : Database) : Type
   pub store : IsStore b
   pub row : IsDocumentRow b.trees d
   pub shown_is : shown ≡ named_document d
-  pub apart : list_any (is_of (db_of d) (id_of d)) left ≡ false
+  pub apart : list_any (is_row_of_document (db_of d) (id_of d)) left ≡ false
   pub indexed : AreIndexed (without_documents (declares_in b.trees) (d ∷ left)) (sees_in b.trees) b.trees
 
 -- the documents of these rows, which a query shows so, declare nothing yet

@@ -4,3 +4,4 @@ pub mod Following
 pub mod Histories
 pub mod Postponing
 pub mod Placed
+pub mod Calls

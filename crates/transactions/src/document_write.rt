@@ -1,8 +1,7 @@
 //! One write of a document, as statements of a transaction.
 
-ghost use Rattle.std.specs.Prelude.{◌≡◌, ◌∷◌, [], not, None, Some, IfErr, IfOk, OnOk, string_bytes, ⊤};
+ghost use Rattle.std.specs.Prelude.{◌∷◌, ◌≡◌, IfErr, IfOk, IsTrue, None, OnOk, Some, [], not, string_bytes, ⊤};
 ghost use Rattle.std.specs.FinMap as map;
-ghost use Rattle.std.specs.Prelude.{IsTrue};
 ghost use Rattle.std.specs.List.{AllByRecursion, list_any};
 ghost use Rattle.couch_json.specs.Canonical.{canonical};
 ghost use Rattle.couch_json.specs.Value.{Value};
@@ -12,19 +11,17 @@ ghost use Rattle.sqlite.specs.Values.{or_null};
 ghost use Rattle.sqlite_value.specs.declared.value.Value.TheVariants.{Text};
 ghost use Rattle.tables.specs.Calls.{Proceeds, Stays};
 ghost use Rattle.store.specs.Plain.{with_addition};
-ghost use Rattle.store.specs.Writing.{addition_of, written_in};
-ghost use Rattle.tables.specs.Layout.{AreDocumentRows, IsStore};
-ghost use Rattle.tables.specs.Rows.{history_in, is_of, parent_cell};
-ghost use Rattle.tables.specs.Schema.{docs_tree, revs_tree, schema};
-ghost use Rattle.tree.specs.History.{behind};
+ghost use Rattle.store.specs.Writing.{addition_of};
+ghost use Rattle.tables.specs.Layout.{AreDocumentRows};
+ghost use Rattle.tables.specs.Rows.{is_row_of_document, parent_cell};
+ghost use Rattle.tables.specs.Schema.{docs_tree, schema};
 ghost use Rattle.tree.specs.Nodes.{entries_before};
 ghost use Rattle.tree.specs.Revision.{is_revision};
-ghost use Rattle.tree.specs.Write.{head};
 ghost use Rattle.transactions.specs.Commits.{IsUnwritten};
 ghost use Rattle.transactions.specs.inner.Following.{HasPlaceFor, Serves};
 ghost use Rattle.transactions.specs.inner.Inserting.{InsertsAll, IsBest, IsLawfulAddition, IsPlaced, entries_of, unknown_in};
-ghost use Rattle.transactions.specs.inner.Placed.{IsPlacedWrite};
-ghost use Rattle.transactions.specs.Reading.{HasBest, IsMissed};
+ghost use Rattle.transactions.specs.Reading.{IsMissed};
+ghost use Rattle.transactions.specs.inner.Calls.{PutsWrite};
 
 use crate::commit_fault::CommitFault;
 use crate::history_fault::HistoryFault;
@@ -38,7 +35,7 @@ use tree::{History, Rev, find_next};
 
 /// Does one write of a document, whose history says what the write asks of the one before it. The
 /// sequence of the database is left to the caller.
-pub(crate) fn add_write<S: Alter>(
+pub(crate) fn insert_write<S: Alter>(
     alloc: Global,
     tx: &mut Transaction<'_, S>,
     db: &i64,
@@ -47,21 +44,14 @@ pub(crate) fn add_write<S: Alter>(
     write: &Write,
 ) -> Result<(), CommitFault>
     ensures same_reference { tx.new.conn.ghost_name ≡ tx.old.conn.ghost_name }
-    ensures ok { HasCleanDisk (state S.Store tx.new.conn.now) → IsStore (state S.Store tx.old.conn.now).now
-        → Serves (addition_of write.now) (history_in ((state S.Store tx.old.conn.now).now.trees revs_tree) db.now (addition_of write.now).id) history.old
-        → OnOk result (IsPlacedWrite db.now sequence.now
-        (written_in (history_in ((state S.Store tx.old.conn.now).now.trees revs_tree) db.now (addition_of write.now).id) (addition_of write.now))
-        (state S.Store tx.old.conn.now).now (state S.Store tx.new.conn.now).now) }
+    ensures puts { PutsWrite S.Store (λ stored. Serves (addition_of write.now) stored history.old) history.old db.now sequence.now (addition_of write.now)
+        tx.old.conn.now tx.new.conn.now result }
     ensures after { OnOk result (history.new ≡ with_addition history.old (addition_of write.now)) }
-    ensures err { IfErr result (IsUnwritten (HasBest (with_addition history.old (addition_of write.now)))) }
-    ensures lawful { OnOk result (IsLawfulAddition (addition_of write.now)) }
-    ensures inside { Stays S.Store tx.old.conn.now tx.new.conn.now result }
-    ensures proceeds { Proceeds S.Store tx.old.conn.now tx.new.conn.now }
 {
     let is_new = history.winner().is_none();
     insert_revisions(alloc, tx, db, history, write)?;
     history.put(&write.path, write.parent, write.deleted, &write.body)?;
-    let (text, deleted) = best_of(alloc, history)?;
+    let (text, deleted) = find_best(alloc, history)?;
     let id = write.id.as_str().as_bytes();
     place_document(tx, db, id, sequence, text.as_str(), deleted, is_new)?;
     Ok(())
@@ -70,7 +60,7 @@ pub(crate) fn add_write<S: Alter>(
 /// Does the first write of a document, whose history is empty, and leaves it so. The newest revision of
 /// the path is the winner then, so no history is made of it. The sequence of the database is left to the
 /// caller.
-pub(crate) fn add_first<S: Alter>(
+pub(crate) fn insert_first_write<S: Alter>(
     alloc: Global,
     tx: &mut Transaction<'_, S>,
     db: &i64,
@@ -79,27 +69,20 @@ pub(crate) fn add_first<S: Alter>(
     write: &Write,
 ) -> Result<(), CommitFault>
     ensures same_reference { tx.new.conn.ghost_name ≡ tx.old.conn.ghost_name }
-    ensures ok { HasCleanDisk (state S.Store tx.new.conn.now) → IsStore (state S.Store tx.old.conn.now).now
-        → Serves (addition_of write.now) (history_in ((state S.Store tx.old.conn.now).now.trees revs_tree) db.now (addition_of write.now).id) history.now
-        → history.now ≡ map.empty → HasPlaceFor map.empty (addition_of write.now)
-        → OnOk result (IsPlacedWrite db.now sequence.now
-        (written_in (history_in ((state S.Store tx.old.conn.now).now.trees revs_tree) db.now (addition_of write.now).id) (addition_of write.now))
-        (state S.Store tx.old.conn.now).now (state S.Store tx.new.conn.now).now) }
-    ensures err { IfErr result (IsUnwritten (HasBest (with_addition map.empty (addition_of write.now)))) }
-    ensures lawful { OnOk result (IsLawfulAddition (addition_of write.now)) }
-    ensures inside { Stays S.Store tx.old.conn.now tx.new.conn.now result }
-    ensures proceeds { Proceeds S.Store tx.old.conn.now tx.new.conn.now }
+    ensures puts { PutsWrite S.Store
+        (λ stored. Serves (addition_of write.now) stored history.now × (history.now ≡ map.empty) × HasPlaceFor map.empty (addition_of write.now))
+        map.empty db.now sequence.now (addition_of write.now) tx.old.conn.now tx.new.conn.now result }
 {
     insert_revisions(alloc, tx, db, history, write)?;
-    let text = newest_of(alloc, write)?;
+    let text = find_newest(alloc, write)?;
     let id = write.id.as_str().as_bytes();
     place_document(tx, db, id, sequence, text.as_str(), write.deleted, true)?;
     Ok(())
 }
 
-/// Returns the text of the newest revision of a write, which is the best where it is the first write of
+/// Finds the text of the newest revision of a write, which is the best where it is the first write of
 /// its document.
-fn newest_of(alloc: Global, write: &Write) -> Result<String, HistoryFault>
+fn find_newest(alloc: Global, write: &Write) -> Result<String, HistoryFault>
     ensures ok { IfOk result
         (λ text. HasPlaceFor map.empty (addition_of write.now)
         → IsBest (with_addition map.empty (addition_of write.now)) (string_bytes text) write.now.deleted) }
@@ -129,7 +112,7 @@ fn insert_passed<S: Alter>(
     if history.knows(rev) {
         return Ok(());
     }
-    let parent = hash_of(parent);
+    let parent = find_hash(parent);
     insert_revision(
         tx,
         db,
@@ -143,8 +126,8 @@ fn insert_passed<S: Alter>(
     )
 }
 
-/// Returns the hash of a parent, if there is one.
-fn hash_of(parent: &Option<Rev>) -> Option<&str>
+/// Finds the hash of a parent, if there is one.
+fn find_hash(parent: &Option<Rev>) -> Option<&str>
     ensures { or_null (λ s. Text s.now) result ≡ parent_cell parent.now }
 {
     match parent {
@@ -194,7 +177,7 @@ fn insert_newest<S: Alter>(
     if history.knows(rev) {
         return Ok(());
     }
-    let parent = hash_of(parent);
+    let parent = find_hash(parent);
     insert_revision(
         tx,
         db,
@@ -290,7 +273,7 @@ fn place_document<S: Alter>(
     ensures same_reference { tx.new.conn.ghost_name ≡ tx.old.conn.ghost_name }
     ensures ok { HasCleanDisk (state S.Store tx.new.conn.now) → tx.old.conn.now.schema ≡ schema
         → AreDocumentRows ((state S.Store tx.old.conn.now).now.trees docs_tree)
-        → list_any (is_of db.now id.now) ((state S.Store tx.old.conn.now).now.trees docs_tree) ≡ not is_new
+        → list_any (is_row_of_document db.now id.now) ((state S.Store tx.old.conn.now).now.trees docs_tree) ≡ not is_new
         → OnOk result (IsPlaced db.now id.now sequence.now winner.now deleted (state S.Store tx.old.conn.now).now (state S.Store tx.new.conn.now).now) }
     ensures inside { Stays S.Store tx.old.conn.now tx.new.conn.now result }
     ensures proceeds { Proceeds S.Store tx.old.conn.now tx.new.conn.now }
@@ -301,8 +284,8 @@ fn place_document<S: Alter>(
     advance_document(tx, db, id, sequence, winner, deleted)
 }
 
-/// Returns the text of the best revision, and whether it is deleted.
-fn best_of(alloc: Global, history: &History) -> Result<(String, bool), HistoryFault>
+/// Finds the text of the best revision, and whether it is deleted.
+fn find_best(alloc: Global, history: &History) -> Result<(String, bool), HistoryFault>
     ensures ok { IfOk result (λ best. IsBest history.now (string_bytes best.0) best.1) }
     ensures err { IfErr result (IsMissed history.now) }
 {

@@ -5,7 +5,7 @@ ghost use Rattle.std.specs.List.{AllByRecursion};
 ghost use Rattle.tables.specs.Shown.{IsShownOutline, IsShownRevision};
 ghost use Rattle.couch_json.specs.Value.{null};
 ghost use Rattle.couch_json.specs.View.{view};
-ghost use Rattle.tree.specs.History.{row_of, with_new};
+ghost use Rattle.tree.specs.History.{entry_of_row, with_new};
 ghost use Rattle.transactions.specs.Reading.{IsLost, IsRead, entry_shown, history_shown, node_shown, outline_shown};
 
 use sqlite::Row;
@@ -16,7 +16,7 @@ use tree::{History, Outline};
 
 /// Reads the revision of a row.
 fn read_row(alloc: Global, row: &Row) -> Result<FoundRevision, StoreFault>
-    ensures ok { IfOk result (λ d. (d.rev, row_of d.parent (option_map (λ h. (h.0, view h.1)) d.held)) ≡ entry_shown row.now) }
+    ensures ok { IfOk result (λ d. (d.rev, entry_of_row d.parent (option_map (λ h. (h.0, view h.1)) d.held)) ≡ entry_shown row.now) }
     ensures err { IfErr result (IsLost (IsShownRevision row.now)) }
 {
     match read_revision(alloc, row) {
@@ -49,7 +49,7 @@ pub fn read_history(alloc: Global, rows: Vec<Row>) -> Result<History, StoreFault
 
 /// Reads the revision of a row without its body.
 fn read_node_row(row: &Row) -> Result<FoundNode, StoreFault>
-    ensures ok { IfOk result (λ d. (d.rev, row_of d.parent (option_map (λ deleted. (deleted, null)) d.mark)) ≡ node_shown row.now) }
+    ensures ok { IfOk result (λ d. (d.rev, entry_of_row d.parent (option_map (λ deleted. (deleted, null)) d.mark)) ≡ node_shown row.now) }
     ensures err { IfErr result (IsLost (IsShownOutline row.now)) }
 {
     match read_node(row) {

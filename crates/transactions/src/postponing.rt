@@ -1,20 +1,19 @@
 //! Design documents of a commit, whose indexes follow them at its end, all together.
 
-ghost use Rattle.std.specs.Prelude.{◌≡◌, ◌≢◌, [], IfErr, IfOk, IsTrue, OnOk, map, true};
+ghost use Rattle.std.specs.Prelude.{◌≡◌, ◌≢◌, IfErr, IfOk, IsTrue, OnOk, [], map, true, ⊤};
 ghost use Rattle.sqlite.specs.Held.{state};
 ghost use Rattle.sqlite.specs.State.{HasCleanDisk, KeepsCommit};
-ghost use Rattle.tables.specs.Calls.{AsksInside, IsServed, LooksInside, Stands};
-ghost use Rattle.tables.specs.Layout.{IsStore};
+ghost use Rattle.tables.specs.Calls.{AsksInside};
 ghost use Rattle.tables.specs.Schema.{schema};
 ghost use Rattle.index.specs.Declaring.{IsRebuildable};
 ghost use Rattle.index.specs.Meaning.{Declarations, Documents};
 ghost use Rattle.index.specs.Shown.{declared};
-ghost use Rattle.index.specs.Steps.{AreFit, Steps};
-ghost use Rattle.transactions.specs.Commits.{IsSound, IsUnwritten};
-ghost use Rattle.std.specs.Prelude.{⊤};
+ghost use Rattle.index.specs.Steps.{AreFit};
+ghost use Rattle.transactions.specs.Commits.{IsUnwritten};
 ghost use Rattle.transactions.specs.Indexing.{AreAllIndexes, IsIndexedStoreBut, IsNoted, IsWithId};
-ghost use Rattle.transactions.specs.inner.Postponing.{AreClearedAsStored, AreDeclaredAsStored, AreToDeclare, IsCaughtUp};
-ghost use Rattle.transactions.specs.inner.Postponing.{IsClearedAsStored, IsDeclaredAsStored, IsToDeclareAsStored};
+ghost use Rattle.transactions.specs.inner.Postponing.{AreClearedAsStored, AreDeclaredAsStored, AreToDeclare, IsCaughtUp, IsClearedAsStored, IsDeclaredAsStored};
+ghost use Rattle.transactions.specs.inner.Postponing.{IsToDeclareAsStored};
+ghost use Rattle.transactions.specs.inner.Calls.{Finds, MakesStep, open_in};
 
 use crate::commit_fault::CommitFault;
 use crate::indexing::list_unknown;
@@ -46,13 +45,8 @@ pub(crate) fn note_winner<S: Alter>(
     postponed: &mut BTreeSet<DocId>,
 ) -> Result<(), CommitFault>
     ensures same_reference { tx.new.conn.ghost_name ≡ tx.old.conn.ghost_name }
-    ensures notes { HasCleanDisk (state S.Store tx.new.conn.now) → IsStore (state S.Store tx.old.conn.now).now
-        → OnOk result (IsNoted db.now id.now before.now postponed.old.keys postponed.new.keys (state S.Store tx.old.conn.now).now) }
-    ensures err { IfErr result (IsUnwritten (IsSound S.Store (λ _. ⊤) tx.old.conn.now tx.new.conn.now)) }
-    ensures stands { Stands S.Store tx.old.conn.now tx.new.conn.now result }
-    ensures served { IsServed S.Store tx.old.conn.now tx.new.conn.now result }
-    ensures looks { LooksInside S.Store tx.old.conn.now tx.new.conn.now }
-    ensures asks { AsksInside S.Store tx.old.conn.now tx.new.conn.now }
+    ensures finds { Finds S.Store (λ _. ⊤)
+        (λ trees _. IsNoted db.now id.now before.now postponed.old.keys postponed.new.keys trees) tx.old.conn.now tx.new.conn.now result }
 {
     let after = find_winner(alloc, tx, db, id)?;
     if is_same_winner(before, &after) {
@@ -71,9 +65,7 @@ fn clear_stored<S: Alter>(
 ) -> Result<(), CommitFault>
     ensures same_reference { tx.new.conn.ghost_name ≡ tx.old.conn.ghost_name }
     ensures clears { (declares : Declarations) (sees : Documents)
-        → Steps S.Store (IsRebuildable declares sees db.now) (IsClearedAsStored declares sees db.now id.now) tx.old.conn.now tx.new.conn.now result }
-    ensures err { (declares : Declarations) (sees : Documents)
-        → IfErr result (IsUnwritten (AreFit S.Store (IsRebuildable declares sees db.now) tx.old.conn.now tx.new.conn.now)) }
+        → MakesStep S.Store (IsRebuildable declares sees db.now) (IsClearedAsStored declares sees db.now id.now) tx.old.conn.now tx.new.conn.now result }
 {
     let history = find_winning(alloc, tx, db, id)?;
     let body = find_winning_body(&history);
@@ -92,11 +84,8 @@ fn declare_stored<S: Alter>(
 ) -> Result<(), CommitFault>
     ensures same_reference { tx.new.conn.ghost_name ≡ tx.old.conn.ghost_name }
     ensures declares { (declares : Declarations) (sees : Documents)
-        → Steps S.Store (IsToDeclareAsStored declares sees db.now id.now (map declared fresh.old.items))
+        → MakesStep S.Store (IsToDeclareAsStored declares sees db.now id.now (map declared fresh.old.items))
         (IsDeclaredAsStored declares sees db.now id.now (map declared fresh.new.items)) tx.old.conn.now tx.new.conn.now result }
-    ensures err { (declares : Declarations) (sees : Documents)
-        → IfErr result (IsUnwritten
-        (AreFit S.Store (IsToDeclareAsStored declares sees db.now id.now (map declared fresh.old.items)) tx.old.conn.now tx.new.conn.now)) }
 {
     let history = find_winning(alloc, tx, db, id)?;
     let body = find_winning_body(&history);
@@ -113,10 +102,8 @@ fn clear_all_stored<S: Alter>(
 ) -> Result<(), CommitFault>
     ensures same_reference { tx.new.conn.ghost_name ≡ tx.old.conn.ghost_name }
     ensures clears { (declares : Declarations) (sees : Documents)
-        → Steps S.Store (IsRebuildable declares sees db.now)
+        → MakesStep S.Store (IsRebuildable declares sees db.now)
         (AreClearedAsStored declares sees db.now designs.now.keys []) tx.old.conn.now tx.new.conn.now result }
-    ensures err { (declares : Declarations) (sees : Documents)
-        → IfErr result (IsUnwritten (AreFit S.Store (IsRebuildable declares sees db.now) tx.old.conn.now tx.new.conn.now)) }
 {
     for id in designs {
         clear_stored(alloc, tx, db, id)?;
@@ -135,11 +122,8 @@ fn declare_all_stored<S: Alter>(
 ) -> Result<(), CommitFault>
     ensures same_reference { tx.new.conn.ghost_name ≡ tx.old.conn.ghost_name }
     ensures declares { (sees : Documents)
-        → Steps S.Store (AreToDeclare sees db.now designs.now.keys (map declared fresh.old.items))
+        → MakesStep S.Store (AreToDeclare sees db.now designs.now.keys (map declared fresh.old.items))
         (AreDeclaredAsStored sees db.now designs.now.keys [] (map declared fresh.new.items)) tx.old.conn.now tx.new.conn.now result }
-    ensures err { (sees : Documents)
-        → IfErr result (IsUnwritten
-        (AreFit S.Store (AreToDeclare sees db.now designs.now.keys (map declared fresh.old.items)) tx.old.conn.now tx.new.conn.now)) }
 {
     for id in designs {
         declare_stored(alloc, tx, db, id, fresh)?;
@@ -156,8 +140,7 @@ fn redeclare_postponed<S: Alter>(
     postponed: &BTreeSet<DocId>,
 ) -> Result<(), CommitFault>
     ensures same_reference { tx.new.conn.ghost_name ≡ tx.old.conn.ghost_name }
-    ensures steps { Steps S.Store (IsIndexedStoreBut db.now postponed.now.keys) IsCaughtUp tx.old.conn.now tx.new.conn.now result }
-    ensures err { IfErr result (IsUnwritten (AreFit S.Store (IsIndexedStoreBut db.now postponed.now.keys) tx.old.conn.now tx.new.conn.now)) }
+    ensures makes { MakesStep S.Store (IsIndexedStoreBut db.now postponed.now.keys) IsCaughtUp tx.old.conn.now tx.new.conn.now result }
 {
     clear_all_stored(alloc, tx, db, postponed)?;
     let mut fresh = Vec::new(alloc);
@@ -176,10 +159,10 @@ pub(crate) fn catch_up<S: Alter>(
     indexes: Vec<Declaration>,
 ) -> Result<Vec<Declaration>, CommitFault>
     ensures same_reference { tx.new.conn.ghost_name ≡ tx.old.conn.ghost_name }
-    ensures ok { HasCleanDisk (state S.Store tx.new.conn.now) → IsIndexedStoreBut db.now postponed.now.keys (state S.Store tx.old.conn.now).now
-        → AreAllIndexes (map declared indexes.items) db.now (state S.Store tx.old.conn.now).now.trees
-        → IfOk result (λ all. IsCaughtUp (state S.Store tx.old.conn.now).now (state S.Store tx.new.conn.now).now
-        × AreAllIndexes (map declared all.items) db.now (state S.Store tx.new.conn.now).now.trees) }
+    ensures ok { HasCleanDisk (state S.Store tx.new.conn.now) → IsIndexedStoreBut db.now postponed.now.keys (open_in S.Store tx.old.conn.now)
+        → AreAllIndexes (map declared indexes.items) db.now (open_in S.Store tx.old.conn.now).trees
+        → IfOk result (λ all. IsCaughtUp (open_in S.Store tx.old.conn.now) (open_in S.Store tx.new.conn.now)
+        × AreAllIndexes (map declared all.items) db.now (open_in S.Store tx.new.conn.now).trees) }
     ensures err { IfErr result
         (IsUnwritten (postponed.now.keys ≢ [] → AreFit S.Store (IsIndexedStoreBut db.now postponed.now.keys) tx.old.conn.now tx.new.conn.now)) }
     ensures kept { HasCleanDisk (state S.Store tx.new.conn.now) → tx.old.conn.now.schema ≡ schema

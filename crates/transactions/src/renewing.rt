@@ -1,18 +1,18 @@
 //! A file of the first version, carried over to this one.
 
-ghost use Rattle.std.specs.Prelude.{◌≡◌, [], IfErr, IfOk, IsTrue, List, OnOk, false, true, ⊤};
+ghost use Rattle.std.specs.Prelude.{◌≡◌, IfErr, IfOk, IsTrue, List, OnOk, [], false, true, ⊤};
 ghost use Rattle.sqlite.specs.Held.{state};
 ghost use Rattle.sqlite.specs.State.{HasCleanDisk};
 ghost use Rattle.sqlite_value.specs.Order as order;
 ghost use Rattle.sqlite_value.specs.Order.{bytes, column};
-ghost use Rattle.tables.specs.Calls.{AsksInside, LooksInside, Stands};
 ghost use Rattle.tables.specs.Layout.{IsFirstStore};
-ghost use Rattle.tables.specs.Rows.{whole_in};
+ghost use Rattle.tables.specs.Rows.{whole_in_cell};
 ghost use Rattle.tables.specs.Schema.{schema};
-ghost use Rattle.index.specs.Steps.{AreFit, Steps, WasFit};
-ghost use Rattle.transactions.specs.Commits.{IsSound, IsUnwritten};
+ghost use Rattle.index.specs.Steps.{Steps, WasFit};
+ghost use Rattle.transactions.specs.Commits.{IsUnwritten};
 ghost use Rattle.transactions.specs.Endings.{IsDone, IsUndone, Turns};
 ghost use Rattle.transactions.specs.Renewing.{AreRedeclared, AreToRedeclare, HasNoIndexes, IsCarriedOver, IsShownName, IsToRedeclare};
+ghost use Rattle.transactions.specs.inner.Calls.{Finds, MakesStep};
 
 use crate::commit_fault::CommitFault;
 use crate::indexing::redeclare;
@@ -66,8 +66,7 @@ fn renew<S: Alter>(alloc: Global, tx: &mut Transaction<'_, S>) -> Result<(), Com
 /// winner of each other document: it has to be stored.
 fn redeclare_all<S: Alter>(alloc: Global, tx: &mut Transaction<'_, S>) -> Result<(), CommitFault>
     ensures same_reference { tx.new.conn.ghost_name ≡ tx.old.conn.ghost_name }
-    ensures steps { Steps S.Store HasNoIndexes (AreRedeclared []) tx.old.conn.now tx.new.conn.now result }
-    ensures err { IfErr result (IsUnwritten (AreFit S.Store HasNoIndexes tx.old.conn.now tx.new.conn.now)) }
+    ensures makes { MakesStep S.Store HasNoIndexes (AreRedeclared []) tx.old.conn.now tx.new.conn.now result }
 {
     let rows = rows_between_in(tx, b"", b"\xff")?;
     redeclare_rows(alloc, tx, &rows)
@@ -80,8 +79,7 @@ fn redeclare_rows<S: Alter>(
     rows: &[Row],
 ) -> Result<(), CommitFault>
     ensures same_reference { tx.new.conn.ghost_name ≡ tx.old.conn.ghost_name }
-    ensures steps { (docs : List order.Row) → Steps S.Store (AreToRedeclare rows.now docs) (AreRedeclared []) tx.old.conn.now tx.new.conn.now result }
-    ensures err { (docs : List order.Row) → IfErr result (IsUnwritten (AreFit S.Store (AreToRedeclare rows.now docs) tx.old.conn.now tx.new.conn.now)) }
+    ensures makes { (docs : List order.Row) → MakesStep S.Store (AreToRedeclare rows.now docs) (AreRedeclared []) tx.old.conn.now tx.new.conn.now result }
 {
     for row in rows {
         redeclare_row(alloc, tx, row)?;
@@ -97,10 +95,8 @@ fn redeclare_row<S: Alter>(
     row: &Row,
 ) -> Result<(), CommitFault>
     ensures same_reference { tx.new.conn.ghost_name ≡ tx.old.conn.ghost_name }
-    ensures steps { (d : order.Row) (left : List order.Row)
-        → Steps S.Store (IsToRedeclare row.now d left) (AreRedeclared left) tx.old.conn.now tx.new.conn.now result }
-    ensures err { (d : order.Row) (left : List order.Row)
-        → IfErr result (IsUnwritten (AreFit S.Store (IsToRedeclare row.now d left) tx.old.conn.now tx.new.conn.now)) }
+    ensures makes { (d : order.Row) (left : List order.Row)
+        → MakesStep S.Store (IsToRedeclare row.now d left) (AreRedeclared left) tx.old.conn.now tx.new.conn.now result }
 {
     let named = read_named(alloc, row)?;
     if named.id.is_design() {
@@ -118,10 +114,7 @@ fn check_stored<S: Alter>(
     id: &DocId,
 ) -> Result<(), CommitFault>
     ensures same_reference { tx.new.conn.ghost_name ≡ tx.old.conn.ghost_name }
-    ensures err { IfErr result (IsUnwritten (IsSound S.Store (λ _. ⊤) tx.old.conn.now tx.new.conn.now)) }
-    ensures stands { Stands S.Store tx.old.conn.now tx.new.conn.now result }
-    ensures looks { LooksInside S.Store tx.old.conn.now tx.new.conn.now }
-    ensures asks { AsksInside S.Store tx.old.conn.now tx.new.conn.now }
+    ensures finds { Finds S.Store (λ _. ⊤) (λ _ _. ⊤) tx.old.conn.now tx.new.conn.now result }
 {
     let _winner = find_winning(alloc, tx, db, id)?;
     Ok(())
@@ -129,7 +122,7 @@ fn check_stored<S: Alter>(
 
 /// Reads what names a document.
 fn read_named(alloc: Global, row: &Row) -> Result<NamedDocument, CommitFault>
-    ensures db { IfOk result (λ named. named.db ≡ whole_in (column row.now 0)) }
+    ensures db { IfOk result (λ named. named.db ≡ whole_in_cell (column row.now 0)) }
     ensures id { IfOk result (λ named. named.id ≡ bytes (column row.now 1)) }
     ensures err { IfErr result (IsUnwritten (IsShownName row.now)) }
 {
@@ -140,7 +133,7 @@ fn read_named(alloc: Global, row: &Row) -> Result<NamedDocument, CommitFault>
 
 /// Reads the number of the database of a document.
 fn read_number(row: &Row) -> Result<i64, CommitFault>
-    ensures ok { IfOk result (λ n. n ≡ whole_in (column row.now 0)) }
+    ensures ok { IfOk result (λ n. n ≡ whole_in_cell (column row.now 0)) }
     ensures err { IfErr result (IsUnwritten (IsShownName row.now)) }
 {
     match whole_at(row, 0) {

@@ -1,21 +1,16 @@
 //! What is read of a document's winner within a transaction, and what queries see of it.
 
-ghost use Rattle.std.specs.Prelude.{◌≡◌, IfErr, IfOk, Some, option_map, slice_get, ⊤};
+ghost use Rattle.std.specs.Prelude.{◌≡◌, Some, option_map, slice_get, ⊤};
 ghost use Rattle.std.specs.FinMap as map;
 ghost use Rattle.std.specs.List.{AllByRecursion};
 ghost use Rattle.couch_json.specs.View.{view};
 ghost use Rattle.index.specs.Meaning.{sees_in};
-ghost use Rattle.sqlite.specs.Held.{state};
-ghost use Rattle.sqlite.specs.State.{HasCleanDisk};
 ghost use Rattle.store.specs.Winning.{winner_alone};
-ghost use Rattle.tables.specs.Calls.{AsksInside, IsServed, LooksInside, Stands};
-ghost use Rattle.tables.specs.Layout.{IsStore};
-ghost use Rattle.tables.specs.Rows.{history_in};
-ghost use Rattle.tables.specs.Schema.{revs_tree};
 ghost use Rattle.tables.specs.Shown.{IsShownRevision};
-ghost use Rattle.transactions.specs.Commits.{IsSound, IsUnwritten};
+ghost use Rattle.transactions.specs.inner.Calls.{Finds};
 ghost use Rattle.transactions.specs.Reading.{IsRead, known_shown};
 ghost use Rattle.tree.specs.Outline.{marked_winner};
+ghost use Rattle.transactions.specs.inner.Histories.{stored_history};
 
 use crate::commit_fault::CommitFault;
 use crate::winners::first_winner;
@@ -66,13 +61,8 @@ pub(crate) fn find_winner<S: Alter>(
     id: &DocId,
 ) -> Result<Option<MarkedRev>, CommitFault>
     ensures same_reference { tx.new.conn.ghost_name ≡ tx.old.conn.ghost_name }
-    ensures ok { HasCleanDisk (state S.Store tx.new.conn.now) → IsStore (state S.Store tx.old.conn.now).now
-        → IfOk result (λ found. found ≡ marked_winner (history_in ((state S.Store tx.old.conn.now).now.trees revs_tree) db.now id.now)) }
-    ensures err { IfErr result (IsUnwritten (IsSound S.Store (λ _. ⊤) tx.old.conn.now tx.new.conn.now)) }
-    ensures stands { Stands S.Store tx.old.conn.now tx.new.conn.now result }
-    ensures served { IsServed S.Store tx.old.conn.now tx.new.conn.now result }
-    ensures looks { LooksInside S.Store tx.old.conn.now tx.new.conn.now }
-    ensures asks { AsksInside S.Store tx.old.conn.now tx.new.conn.now }
+    ensures finds { Finds S.Store (λ _. ⊤) (λ trees found. found ≡ marked_winner (stored_history trees db.now id.now))
+        tx.old.conn.now tx.new.conn.now result }
 {
     let rows = document_rows_in(tx, db, id.as_str().as_bytes())?;
     Ok(first_winner(alloc, &rows)?)
@@ -87,13 +77,8 @@ fn find_revision<S: Alter>(
     rev: &Rev,
 ) -> Result<Option<Entry>, CommitFault>
     ensures same_reference { tx.new.conn.ghost_name ≡ tx.old.conn.ghost_name }
-    ensures ok { HasCleanDisk (state S.Store tx.new.conn.now) → IsStore (state S.Store tx.old.conn.now).now
-        → IfOk result (λ found. found ≡ map.get (history_in ((state S.Store tx.old.conn.now).now.trees revs_tree) db.now id.now) rev.now) }
-    ensures err { IfErr result (IsUnwritten (IsSound S.Store (λ _. ⊤) tx.old.conn.now tx.new.conn.now)) }
-    ensures stands { Stands S.Store tx.old.conn.now tx.new.conn.now result }
-    ensures served { IsServed S.Store tx.old.conn.now tx.new.conn.now result }
-    ensures looks { LooksInside S.Store tx.old.conn.now tx.new.conn.now }
-    ensures asks { AsksInside S.Store tx.old.conn.now tx.new.conn.now }
+    ensures finds { Finds S.Store (λ _. ⊤) (λ trees found. found ≡ map.get (stored_history trees db.now id.now) rev.now)
+        tx.old.conn.now tx.new.conn.now result }
 {
     let id = id.as_str().as_bytes();
     let rows = one_revision_rows_in(tx, db, id, rev.number(), rev.hash())?;
@@ -108,13 +93,8 @@ pub(crate) fn find_winning<S: Alter>(
     id: &DocId,
 ) -> Result<History, CommitFault>
     ensures same_reference { tx.new.conn.ghost_name ≡ tx.old.conn.ghost_name }
-    ensures ok { HasCleanDisk (state S.Store tx.new.conn.now) → IsStore (state S.Store tx.old.conn.now).now
-        → IfOk result (λ history. history ≡ winner_alone (history_in ((state S.Store tx.old.conn.now).now.trees revs_tree) db.now id.now)) }
-    ensures err { IfErr result (IsUnwritten (IsSound S.Store (λ _. ⊤) tx.old.conn.now tx.new.conn.now)) }
-    ensures stands { Stands S.Store tx.old.conn.now tx.new.conn.now result }
-    ensures served { IsServed S.Store tx.old.conn.now tx.new.conn.now result }
-    ensures looks { LooksInside S.Store tx.old.conn.now tx.new.conn.now }
-    ensures asks { AsksInside S.Store tx.old.conn.now tx.new.conn.now }
+    ensures finds { Finds S.Store (λ _. ⊤) (λ trees history. history ≡ winner_alone (stored_history trees db.now id.now))
+        tx.old.conn.now tx.new.conn.now result }
 {
     let mut history = History::new(alloc);
     let Some(winner) = find_winner(alloc, tx, db, id)? else {
@@ -135,13 +115,7 @@ pub(crate) fn see_document<S: Alter>(
     id: &DocId,
 ) -> Result<Option<Json>, CommitFault>
     ensures same_reference { tx.new.conn.ghost_name ≡ tx.old.conn.ghost_name }
-    ensures ok { HasCleanDisk (state S.Store tx.new.conn.now) → IsStore (state S.Store tx.old.conn.now).now
-        → IfOk result (λ seen. option_map view seen ≡ sees_in (state S.Store tx.old.conn.now).now.trees db.now id.now) }
-    ensures err { IfErr result (IsUnwritten (IsSound S.Store (λ _. ⊤) tx.old.conn.now tx.new.conn.now)) }
-    ensures stands { Stands S.Store tx.old.conn.now tx.new.conn.now result }
-    ensures served { IsServed S.Store tx.old.conn.now tx.new.conn.now result }
-    ensures looks { LooksInside S.Store tx.old.conn.now tx.new.conn.now }
-    ensures asks { AsksInside S.Store tx.old.conn.now tx.new.conn.now }
+    ensures finds { Finds S.Store (λ _. ⊤) (λ trees seen. option_map view seen ≡ sees_in trees db.now id.now) tx.old.conn.now tx.new.conn.now result }
 {
     let history = find_winning(alloc, tx, db, id)?;
     Ok(show_queried(alloc, id, &history)?)

@@ -1,16 +1,12 @@
 //! Checks that the row of a document and the rows of its revisions name one winner.
 
-ghost use Rattle.std.specs.Prelude.{◌≡◌, IfErr, OnOk, Some, slice_get};
+ghost use Rattle.std.specs.Prelude.{◌≡◌, IfErr, OnOk, Some, slice_get, ⊤};
 ghost use Rattle.std.specs.List.{AllByRecursion};
-ghost use Rattle.sqlite.specs.Held.{state};
-ghost use Rattle.sqlite.specs.State.{HasCleanDisk};
-ghost use Rattle.tables.specs.Calls.{AsksInside, IsServed, LooksInside, Stands};
-ghost use Rattle.tables.specs.Rows.{history_in};
-ghost use Rattle.tables.specs.Schema.{revs_tree};
 ghost use Rattle.tables.specs.Shown.{IsShownOutline, mark_shown};
 ghost use Rattle.tree.specs.Outline.{marked_winner};
-ghost use Rattle.transactions.specs.Commits.{IsSound, IsUnwritten};
 ghost use Rattle.transactions.specs.Reading.{HasMark, IsLost};
+ghost use Rattle.transactions.specs.inner.Calls.{Finds};
+ghost use Rattle.transactions.specs.inner.Histories.{stored_history};
 
 use crate::commit_fault::CommitFault;
 use sqlite::{Alter, Row, Transaction};
@@ -102,13 +98,8 @@ pub(crate) fn check_winner<S: Alter>(
     winner: &MarkedRev,
 ) -> Result<(), CommitFault>
     ensures same_reference { tx.new.conn.ghost_name ≡ tx.old.conn.ghost_name }
-    ensures err { IfErr result
-        (IsUnwritten (IsSound S.Store
-        (λ trees. marked_winner (history_in (trees revs_tree) db.now id.now) ≡ Some winner.now) tx.old.conn.now tx.new.conn.now)) }
-    ensures stands { Stands S.Store tx.old.conn.now tx.new.conn.now result }
-    ensures served { IsServed S.Store tx.old.conn.now tx.new.conn.now result }
-    ensures looks { LooksInside S.Store tx.old.conn.now tx.new.conn.now }
-    ensures asks { AsksInside S.Store tx.old.conn.now tx.new.conn.now }
+    ensures finds { Finds S.Store (λ trees. marked_winner (stored_history trees db.now id.now) ≡ Some winner.now) (λ _ _. ⊤)
+        tx.old.conn.now tx.new.conn.now result }
 {
     let id = id.as_str().as_bytes();
     let rows = one_outline_rows_in(tx, db, id, winner.rev.number(), winner.rev.hash())?;

@@ -77,7 +77,7 @@ fn make_single(alloc: Global, rev: Rev) -> Got<History>
 
 /// Makes what a write asks of its document's history, where that is the winner alone, or nothing
 /// since the document was never written; `None` where it may ask for more.
-pub(crate) fn history_for(
+pub(crate) fn make_history(
     alloc: Global,
     winner: Option<MarkedRev>,
     write: &Write,

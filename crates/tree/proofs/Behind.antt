@@ -4,7 +4,7 @@ use Rattle.std.specs.Prelude.{is_some, ⊤}
 use Rattle.std.specs.FinMap.{insert}
 use Rattle.tree.specs.Revision.{Revision}
 use Rattle.tree.specs.Write.{head, StandsIn}
-use Rattle.tree.specs.History.{HistoryContent, behind, chain, is_known, line, onward, parent_of, path_entries, with_entries, with_new}
+use Rattle.tree.specs.History.{HistoryContent, ancestors_of_parent, chain, is_known, path_from, onward, parent_of, path_entries, with_entries, with_new}
 use Rattle.tree.specs.Nodes.{entries_before, next_of}
 use Rattle.tree.specs.declared.entry.Held.{Held}
 use Rattle.tree.specs.declared.entry.Entry.{Entry}
@@ -17,19 +17,19 @@ abbrev pub AllKnown : HistoryContent → List Revision → Type 0
 AllKnown h [] = ⊤
 AllKnown h (r ∷ rs) = (is_known h r ≡ true) × AllKnown h rs
 
-line_known : (h : HistoryContent) (n : ℕ) (r : Revision) → AllKnown h (line h n r)
+line_known : (h : HistoryContent) (n : ℕ) (r : Revision) → AllKnown h (path_from h n r)
 line_known h zero r = tt
 line_known h (suc n) r = by (λ p. line_known h n p) (is_known h r) refl
   where
-    next : ((p : Revision) → AllKnown h (line h n p)) → (o : Option Revision) → AllKnown h (onward (λ p. line h n p) o)
+    next : ((p : Revision) → AllKnown h (path_from h n p)) → (o : Option Revision) → AllKnown h (onward (λ p. path_from h n p) o)
     next rest None = tt
     next rest (Some p) = rest p
 
-    by : ((p : Revision) → AllKnown h (line h n p)) → (b : Bool) → is_known h r ≡ b → AllKnown h (cond b (r ∷ onward (λ p. line h n p) (parent_of h r)) [])
+    by : ((p : Revision) → AllKnown h (path_from h n p)) → (b : Bool) → is_known h r ≡ b → AllKnown h (cond b (r ∷ onward (λ p. path_from h n p) (parent_of h r)) [])
     by rest true known = (known, next rest (parent_of h r))
     by rest false new = tt
 
-pub behind_known : (h : HistoryContent) (o : Option Revision) → AllKnown h (behind h o)
+pub behind_known : (h : HistoryContent) (o : Option Revision) → AllKnown h (ancestors_of_parent h o)
 behind_known h None = tt
 behind_known h (Some p) = line_known h p.number p
 
@@ -38,14 +38,14 @@ among_known h [] r a i = absurd i
 among_known h (s ∷ rs) r a (inl e) = ap (is_known h) (sym e) ∙ a.0
 among_known h (s ∷ rs) r a (inr i) = among_known h rs r a.1 i
 
-pub stands_known : (h : HistoryContent) (o : Option Revision) (r : Revision) → StandsIn (behind h o) r → is_known h r ≡ true
-stands_known h o r i = among_known h (behind h o) r (behind_known h o) i
+pub stands_known : (h : HistoryContent) (o : Option Revision) (r : Revision) → StandsIn (ancestors_of_parent h o) r → is_known h r ≡ true
+stands_known h o r i = among_known h (ancestors_of_parent h o) r (behind_known h o) i
 
 -- behind a known revision stands its path, and behind another nothing
-pub behind_chain : (h : HistoryContent) (p : Revision) → is_known h p ≡ true → chain h p ≡ Some (behind h (Some p))
-behind_chain h p known = ap (λ b. cond b (Some (line h p.number p)) None) known
+pub behind_chain : (h : HistoryContent) (p : Revision) → is_known h p ≡ true → chain h p ≡ Some (ancestors_of_parent h (Some p))
+behind_chain h p known = ap (λ b. cond b (Some (path_from h p.number p)) None) known
 
-pub behind_unknown : (h : HistoryContent) (p : Revision) → is_known h p ≡ false → behind h (Some p) ≡ []
+pub behind_unknown : (h : HistoryContent) (p : Revision) → is_known h p ≡ false → ancestors_of_parent h (Some p) ≡ []
 behind_unknown h p new = line_off h p.number p new
 
 -- ---- what is known stays known

@@ -3,7 +3,7 @@ use Rattle.std.proofs.Common.{◌≡◌, ◌⊎◌, suc, ◌≤◌, Bool, true, 
 use Rattle.std.proofs.lemmas.Bool.{false≢true}
 use Rattle.std.specs.FinMap.{get}
 use Rattle.tree.specs.Revision.{Revision}
-use Rattle.tree.specs.Write.{Write, is_whole, counts_down, head, IsBehind, IsKnown, IsParent, AreWhole, IsLawful}
+use Rattle.tree.specs.Write.{Write, is_whole_path, counts_down, head, IsBehind, IsKnown, IsParent, AreWhole, AreLawfulWrites}
 use Rattle.tree.specs.History.{HistoryContent, is_known, same_parent, agrees, keeps_parents, is_head_known, placement, content_of, with_write, IsWithWrite}
 use Rattle.tree.specs.declared.entry.Entry.{Entry}
 use Rattle.tree.specs.declared.placement.Placed.{Placed}
@@ -16,7 +16,7 @@ use Rattle.tree.proofs.Shown.{is_known_writes, parent_below, parent_is, root_num
 
 -- ---- lists with one more at the end
 
-pub whole_more : (ws : List Write) (w : Write) → AreWhole ws → is_whole w.path ≡ true → AreWhole (ws ++ w ∷ [])
+pub whole_more : (ws : List Write) (w : Write) → AreWhole ws → is_whole_path w.path ≡ true → AreWhole (ws ++ w ∷ [])
 whole_more [] w h k = (k, tt)
 whole_more (v ∷ ws) w h k = (h.0, whole_more ws w h.1 k)
 
@@ -24,7 +24,7 @@ whole_front : (ws vs : List Write) → AreWhole (ws ++ vs) → AreWhole ws
 whole_front [] vs h = tt
 whole_front (w ∷ ws) vs h = (h.0, whole_front ws vs h.1)
 
-whole_last : (ws : List Write) (w : Write) → AreWhole (ws ++ w ∷ []) → is_whole w.path ≡ true
+whole_last : (ws : List Write) (w : Write) → AreWhole (ws ++ w ∷ []) → is_whole_path w.path ≡ true
 whole_last [] w h = h.0
 whole_last (v ∷ ws) w h = whole_last ws w h.1
 
@@ -113,23 +113,23 @@ kept_parent h (s ∷ path) r p e k (inr b) g = kept_parent h path r p e (parts _
 
 -- what `Added` means
 pub record IsAdded (h : HistoryContent) (path : List Revision) : Type 0 where
-  pub whole : is_whole path ≡ true
+  pub whole : is_whole_path path ≡ true
   pub keeps : keeps_parents h path ≡ true
   pub new : is_head_known h path ≡ false
 
 pub added_is : (h : HistoryContent) (path : List Revision) → placement h path ≡ Ok Added → IsAdded h path
-added_is h path e = by (is_whole path) (keeps_parents h path) (is_head_known h path) refl refl refl e
+added_is h path e = by (is_whole_path path) (keeps_parents h path) (is_head_known h path) refl refl refl e
   where
-    by : (a b c : Bool) → is_whole path ≡ a → keeps_parents h path ≡ b → is_head_known h path ≡ c → cond (not a) (Err BadPath) (cond (not b) (Err OtherParent) (cond c (Ok Known) (Ok Added))) ≡ Ok Added → IsAdded h path
+    by : (a b c : Bool) → is_whole_path path ≡ a → keeps_parents h path ≡ b → is_head_known h path ≡ c → cond (not a) (Err BadPath) (cond (not b) (Err OtherParent) (cond c (Ok Known) (Ok Added))) ≡ Ok Added → IsAdded h path
     by true true true x y z e = cc
     by true true false x y z e = record { whole = x; keeps = y; new = z }
     by true false c x y z e = cc
     by false b c x y z e = cc
 
 pub keeps_where_placed : (h : HistoryContent) (path : List Revision) (p : Placed) → placement h path ≡ Ok p → keeps_parents h path ≡ true
-keeps_where_placed h path p e = by (is_whole path) (keeps_parents h path) refl refl e
+keeps_where_placed h path p e = by (is_whole_path path) (keeps_parents h path) refl refl e
   where
-    by : (a b : Bool) → is_whole path ≡ a → keeps_parents h path ≡ b → cond (not a) (Err BadPath) (cond (not b) (Err OtherParent) (cond (is_head_known h path) (Ok Known) (Ok Added))) ≡ Ok p → keeps_parents h path ≡ true
+    by : (a b : Bool) → is_whole_path path ≡ a → keeps_parents h path ≡ b → cond (not a) (Err BadPath) (cond (not b) (Err OtherParent) (cond (is_head_known h path) (Ok Known) (Ok Added))) ≡ Ok p → keeps_parents h path ≡ true
     by true true x y z = y
     by true false x y z = cc
     by false b x y z = cc
@@ -141,7 +141,7 @@ new_head : (h : HistoryContent) (path : List Revision) (r : Revision) → head p
 new_head h [] r e = cc
 new_head h (s ∷ path) r e = let i : s ≡ r = cc in ap (is_known h) i
 
-pub added_goes_on : (ws : List Write) (w : Write) → IsLawful ws → placement (content_of ws) w.path ≡ Ok Added → IsLawful (ws ++ w ∷ [])
+pub added_goes_on : (ws : List Write) (w : Write) → AreLawfulWrites ws → placement (content_of ws) w.path ≡ Ok Added → AreLawfulWrites (ws ++ w ∷ [])
 added_goes_on ws w lawful e = record { whole = whole_more ws w lawful.whole a.whole; heads_new = heads; one_parent = one }
   where
     a : IsAdded (content_of ws) w.path
@@ -210,19 +210,19 @@ module _ (ws : List Write) (whole : AreWhole ws) where
       let b = keeps_where_one_parent path (parts _ _ c).1 (λ s p q k i. one s p q k (inr i)) in
       rw (a, b) refl
 
-pub lawful_front : (ws vs : List Write) → IsLawful (ws ++ vs) → IsLawful ws
+pub lawful_front : (ws vs : List Write) → AreLawfulWrites (ws ++ vs) → AreLawfulWrites ws
 lawful_front ws vs lawful = record { whole = whole_front ws vs lawful.whole; heads_new = heads; one_parent = λ r p q b c. lawful.one_parent r p q (parent_kept ws vs r p b) (parent_kept ws vs r q c) }
   where
     heads : (before after : List Write) (v : Write) (r : Revision) → before ++ v ∷ after ≡ ws → head v.path ≡ Some r → ¬ (IsKnown before r)
     heads before after v r s h = lawful.heads_new before (after ++ vs) v r (sym (append_assoc before (v ∷ after) vs) ∙ ap (λ xs. xs ++ vs) s) h
 
-pub goes_on_added : (ws : List Write) (w : Write) → IsLawful (ws ++ w ∷ []) → placement (content_of ws) w.path ≡ Ok Added
+pub goes_on_added : (ws : List Write) (w : Write) → AreLawfulWrites (ws ++ w ∷ []) → placement (content_of ws) w.path ≡ Ok Added
 goes_on_added ws w lawful = is_added (content_of ws) w.path (record { whole = whole; keeps = keeps_where_one_parent ws front.whole w.path (whole_counts w.path whole) (λ r p q b c. lawful.one_parent r p q (parent_kept ws (w ∷ []) r p b) (parent_last ws w r q c)); new = new })
   where
-    front : IsLawful ws
+    front : AreLawfulWrites ws
     front = lawful_front ws (w ∷ []) lawful
 
-    whole : is_whole w.path ≡ true
+    whole : is_whole_path w.path ≡ true
     whole = whole_last ws w lawful.whole
 
     new_at : (path : List Revision) (o : Option Revision) → head path ≡ o → head w.path ≡ o → is_head_known (content_of ws) path ≡ false

@@ -4,7 +4,7 @@ use Rattle.std.specs.Prelude.{IsTrue, is_some, ◌↔◌, slice_index_or}
 use Rattle.std.specs.List.{Contains}
 use Rattle.std.proofs.lemmas.List.Elements.{Contains-append_left, Contains-append_right, Contains-push, Contains-push_cases}
 use Rattle.tree.specs.Revision.{Revision}
-use Rattle.tree.specs.Write.{Write, is_whole, head, held_by, StandsIn, IsBehind, IsKnown, IsParent, IsBrought, AreWhole, IsLawful}
+use Rattle.tree.specs.Write.{Write, is_whole_path, head, held_of_write, StandsIn, IsBehind, IsKnown, IsParent, IsBrought, AreWhole, AreLawfulWrites}
 use Rattle.tree.specs.History.{HistoryContent, LooksAlike, is_known, parent_of, held_of, is_deleted, is_leaf, is_head_known, keeps_parents, leaves, winner, placement, content_of}
 use Rattle.tree.specs.Convergence.{AreConsistent, BringOne, HaveSame, as_judged, replica_of, with_offered}
 use Rattle.tree.specs.declared.entry.Held.{Held}
@@ -45,13 +45,13 @@ parent_by : (ws : List Write) (w : Write) (r p : Revision) → Contains ws w →
 parent_by [] w r p c i = absurd (none w c)
 parent_by (v ∷ ws) w r p c i = elim (first_or_later v ws w c) as (λ _. IsParent (v ∷ ws) r p) [ inl e ↦ inl (subst (λ (x : Write). IsBehind x.path r p) (sym e) i) | inr k ↦ inr (parent_by ws w r p k i) ]
 
-brought_by : (ws : List Write) (w : Write) (r : Revision) (d : Held) → Contains ws w → (head w.path ≡ Some r) × (held_by w ≡ d) → IsBrought ws r d
+brought_by : (ws : List Write) (w : Write) (r : Revision) (d : Held) → Contains ws w → (head w.path ≡ Some r) × (held_of_write w ≡ d) → IsBrought ws r d
 brought_by [] w r d c i = absurd (none w c)
-brought_by (v ∷ ws) w r d c i = elim (first_or_later v ws w c) as (λ _. IsBrought (v ∷ ws) r d) [ inl e ↦ inl (subst (λ (x : Write). (head x.path ≡ Some r) × (held_by x ≡ d)) (sym e) i) | inr k ↦ inr (brought_by ws w r d k i) ]
+brought_by (v ∷ ws) w r d c i = elim (first_or_later v ws w c) as (λ _. IsBrought (v ∷ ws) r d) [ inl e ↦ inl (subst (λ (x : Write). (head x.path ≡ Some r) × (held_of_write x ≡ d)) (sym e) i) | inr k ↦ inr (brought_by ws w r d k i) ]
 
-whole_by : (ws : List Write) (w : Write) → AreWhole ws → Contains ws w → is_whole w.path ≡ true
+whole_by : (ws : List Write) (w : Write) → AreWhole ws → Contains ws w → is_whole_path w.path ≡ true
 whole_by [] w h c = absurd (none w c)
-whole_by (v ∷ ws) w h c = elim (first_or_later v ws w c) as (λ _. is_whole w.path ≡ true) [ inl e ↦ ap (λ (x : Write). is_whole x.path) (sym e) ∙ h.0 | inr k ↦ whole_by ws w h.1 k ]
+whole_by (v ∷ ws) w h c = elim (first_or_later v ws w c) as (λ _. is_whole_path w.path ≡ true) [ inl e ↦ ap (λ (x : Write). is_whole_path x.path) (sym e) ∙ h.0 | inr k ↦ whole_by ws w h.1 k ]
 
 known_among : (ws vs : List Write) (r : Revision) → AreAmong ws vs → IsKnown ws r → IsKnown vs r
 known_among [] vs r a k = elim k [ ]
@@ -71,22 +71,22 @@ brought_among (w ∷ ws) vs r d a (inr k) = brought_among ws vs r d (λ v c. a v
 -- ---- the writes that come in
 
 -- a write among those that fit together is added or known: none is refused
-fits : (all before : List Write) (w : Write) → AreConsistent all → IsLawful before → AreAmong before all → Contains all w → (is_whole w.path ≡ true) × (keeps_parents (content_of before) w.path ≡ true)
+fits : (all before : List Write) (w : Write) → AreConsistent all → AreLawfulWrites before → AreAmong before all → Contains all w → (is_whole_path w.path ≡ true) × (keeps_parents (content_of before) w.path ≡ true)
 fits all before w fit lawful in_all c = (
   whole,
   keeps_where_one_parent before lawful.whole w.path (whole_counts w.path whole) (λ r p q b d. fit.one_parent r p q (parent_among before all r p in_all b) (parent_by all w r q c d)),
 )
   where
-    whole : is_whole w.path ≡ true
+    whole : is_whole_path w.path ≡ true
     whole = whole_by all w fit.whole c
 
-placed : (h : HistoryContent) (path : List Revision) (b : Bool) → is_whole path ≡ true → keeps_parents h path ≡ true → is_head_known h path ≡ b → placement h path ≡ cond b (Ok Known) (Ok Added)
+placed : (h : HistoryContent) (path : List Revision) (b : Bool) → is_whole_path path ≡ true → keeps_parents h path ≡ true → is_head_known h path ≡ b → placement h path ≡ cond b (Ok Known) (Ok Added)
 placed h path b whole keeps is = rw (whole, keeps, is) refl
 
 -- the writes that came in where `ws` were offered to what the writes before had brought
 record CameIn (all before ws : List Write) : Type 0 where
   list : List Write
-  lawful : IsLawful list
+  lawful : AreLawfulWrites list
   content : with_offered (content_of before) ws ≡ content_of list
   among : AreAmong list all
   had_known : (r : Revision) → IsKnown before r → IsKnown list r
@@ -94,10 +94,10 @@ record CameIn (all before ws : List Write) : Type 0 where
   known : (r : Revision) → IsKnown ws r → IsKnown list r
   parent : (r p : Revision) → IsParent ws r p → IsParent list r p
 
-one_came_in : (all : List Write) → AreConsistent all → (before : List Write) (w : Write) → IsLawful before → AreAmong before all → Contains all w → CameIn all before (w ∷ [])
+one_came_in : (all : List Write) → AreConsistent all → (before : List Write) (w : Write) → AreLawfulWrites before → AreAmong before all → Contains all w → CameIn all before (w ∷ [])
 one_came_in all fit before w lawful in_all c = by (is_head_known (content_of before) w.path) refl
   where
-    judged : (is_whole w.path ≡ true) × (keeps_parents (content_of before) w.path ≡ true)
+    judged : (is_whole_path w.path ≡ true) × (keeps_parents (content_of before) w.path ≡ true)
     judged = fits all before w fit lawful in_all c
 
     was : (b : Bool) → is_head_known (content_of before) w.path ≡ b → placement (content_of before) w.path ≡ cond b (Ok Known) (Ok Added)
@@ -142,7 +142,7 @@ one_came_in all fit before w lawful in_all c = by (is_head_known (content_of bef
       parent = λ r p k. parent_among (w ∷ []) (before ++ w ∷ []) r p last k;
     }
 
-all_came_in : (all : List Write) → AreConsistent all → (before ws : List Write) → IsLawful before → AreAmong before all → AreAmong ws all → CameIn all before ws
+all_came_in : (all : List Write) → AreConsistent all → (before ws : List Write) → AreLawfulWrites before → AreAmong before all → AreAmong ws all → CameIn all before ws
 all_came_in all fit before [] lawful in_all rest = record {
   list = before;
   lawful = lawful;
@@ -167,7 +167,7 @@ all_came_in all fit before (w ∷ ws) lawful in_all rest =
       parent = λ r p k. elim k as (λ _. IsParent others.list r p) [ inl i ↦ others.had_parent r p (one.parent r p (inl i)) | inr i ↦ others.parent r p i ];
     }
 
-lawful_nil : IsLawful []
+lawful_nil : AreLawfulWrites []
 lawful_nil = record { whole = tt; heads_new = heads; one_parent = λ r p q b c. elim b [ ] }
   where
     heads : (before after : List Write) (w : Write) (r : Revision) → before ++ w ∷ after ≡ [] → head w.path ≡ Some r → ¬ (IsKnown before r)
@@ -180,7 +180,7 @@ lawful_nil = record { whole = tt; heads_new = heads; one_parent = λ r p q b c. 
 -- some of the writes, in which all revisions stand with their parents, and their content
 record HasAll (all : List Write) (h : HistoryContent) : Type 0 where
   list : List Write
-  lawful : IsLawful list
+  lawful : AreLawfulWrites list
   content : h ≡ content_of list
   among : AreAmong list all
   known : (r : Revision) → IsKnown all r → IsKnown list r
@@ -275,7 +275,7 @@ none_refused ws w fault fit e = by (is_head_known (content_of came.list) w.path)
     came : CameIn (ws ++ w ∷ []) [] ws
     came = all_came_in (ws ++ w ∷ []) fit [] ws lawful_nil (λ v c. absurd (none v c)) (λ v c. Contains-append_left ws (w ∷ []) v c)
 
-    judged : (is_whole w.path ≡ true) × (keeps_parents (content_of came.list) w.path ≡ true)
+    judged : (is_whole_path w.path ≡ true) × (keeps_parents (content_of came.list) w.path ≡ true)
     judged = fits (ws ++ w ∷ []) came.list w fit came.lawful came.among (Contains-push ws w)
 
     by : (b : Bool) → is_head_known (content_of came.list) w.path ≡ b → placement (content_of came.list) w.path ≡ Err fault → ⊥
@@ -284,7 +284,7 @@ none_refused ws w fault fit e = by (is_head_known (content_of came.list) w.path)
 
 -- ---- lists of which each write was added
 
-pub lawful_fits : (ws : List Write) → IsLawful ws → AreConsistent ws
+pub lawful_fits : (ws : List Write) → AreLawfulWrites ws → AreConsistent ws
 lawful_fits ws lawful = record { whole = lawful.whole; one_parent = lawful.one_parent; one_mark = marks }
   where
     held : (r : Revision) (d : Held) → IsBrought ws r d → held_of (content_of ws) r ≡ Some d
@@ -293,14 +293,14 @@ lawful_fits ws lawful = record { whole = lawful.whole; one_parent = lawful.one_p
     marks : (r : Revision) (d e : Held) → IsBrought ws r d → IsBrought ws r e → d.deleted ≡ e.deleted
     marks r d e b c = ap (λ (x : Held). x.deleted) (inside d e (sym (held r d b) ∙ held r e c))
 
-lawful_offered : (before ws : List Write) → IsLawful (before ++ ws) → with_offered (content_of before) ws ≡ content_of (before ++ ws)
+lawful_offered : (before ws : List Write) → AreLawfulWrites (before ++ ws) → with_offered (content_of before) ws ≡ content_of (before ++ ws)
 lawful_offered before [] lawful = ap content_of (sym (append-nil before))
 lawful_offered before (w ∷ ws) lawful =
     let split = append_assoc before (w ∷ []) ws in
-    let longer : IsLawful ((before ++ w ∷ []) ++ ws) = subst IsLawful (sym split) lawful in
+    let longer : AreLawfulWrites ((before ++ w ∷ []) ++ ws) = subst AreLawfulWrites (sym split) lawful in
     let added = goes_on_added before w (lawful_front (before ++ w ∷ []) ws longer) in
     ap (λ h. with_offered h ws) (ap (λ p. as_judged p (content_of before) w) added ∙ sym (one_more_write before w))
     ∙ lawful_offered (before ++ w ∷ []) ws longer ∙ ap content_of split
 
-pub merged_lawful : (ws : List Write) → IsLawful ws → replica_of ws ≡ content_of ws
+pub merged_lawful : (ws : List Write) → AreLawfulWrites ws → replica_of ws ≡ content_of ws
 merged_lawful ws lawful = lawful_offered [] ws lawful

@@ -11,7 +11,7 @@ use Rattle.std.specs.Fmt.{decimal}
 use Rattle.std.specs.Str.Parse.{true_text, false_text}
 use Rattle.couch_json.specs.Value.{Value, truth}
 use Rattle.couch_json.specs.Canonical.{canonical}
-use Rattle.tree.specs.NextRevision.{edit_after}
+use Rattle.tree.specs.NextRevision.{hashed_edit}
 use Rattle.tree.specs.Revision.{is_hash}
 use Rattle.tree.proofs.RevisionText.{parts}
 
@@ -68,7 +68,7 @@ truth_text true = refl
 truth_text false = refl
 
 pub edit_pieces : (n : ℕ) (hash : List ℕ) (deleted : Bool) (body : Value) → list_all is_ascii_alphanumeric hash ≡ true
-    → 91 ∷ (cond deleted true_text false_text ++ (44 ∷ (decimal n ++ (44 ∷ 34 ∷ (hash ++ (34 ∷ 44 ∷ (canonical body ++ 93 ∷ []))))))) ≡ canonical (edit_after n hash deleted body)
+    → 91 ∷ (cond deleted true_text false_text ++ (44 ∷ (decimal n ++ (44 ∷ 34 ∷ (hash ++ (34 ∷ 44 ∷ (canonical body ++ 93 ∷ []))))))) ≡ canonical (hashed_edit n hash deleted body)
 edit_pieces n hash deleted body h =
     ap (λ (rest : List ℕ). 91 ∷ rest)
     (regrouped (cond deleted true_text false_text) (decimal n) hash (canonical body) (93 ∷ [])

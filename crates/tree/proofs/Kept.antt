@@ -7,7 +7,7 @@ use Rattle.std.specs.FinMap.{find, put, is_sorted, entries, from_sorted, entries
 use Rattle.std.specs.FinMap.Entries.{is_sorted-put}
 use Rattle.tree.specs.Revision.{Revision, revision_cmp}
 use Rattle.tree.specs.Nodes.{nodes_with_new, nodes_with}
-use Rattle.tree.specs.History.{HistoryContent, with_new, with_entries, is_known, line, onward, parent_of}
+use Rattle.tree.specs.History.{HistoryContent, with_new, with_entries, is_known, path_from, onward, parent_of}
 use Rattle.tree.specs.declared.entry.Entry.{Entry}
 use Rattle.std.proofs.Math.Dec.{T}
 
@@ -48,32 +48,32 @@ with_nodes old new es h k e =
 -- ---- lines and writes
 
 -- a line goes on at a revision that is known, and ends at one that is not
-pub line_on : (h : HistoryContent) (n : ℕ) (r : Revision) → is_known h r ≡ true → line h (suc n) r ≡ r ∷ onward (λ p. line h n p) (parent_of h r)
-line_on h n r known = ap (λ b. cond b (r ∷ onward (λ p. line h n p) (parent_of h r)) []) known
+pub line_on : (h : HistoryContent) (n : ℕ) (r : Revision) → is_known h r ≡ true → path_from h (suc n) r ≡ r ∷ onward (λ p. path_from h n p) (parent_of h r)
+line_on h n r known = ap (λ b. cond b (r ∷ onward (λ p. path_from h n p) (parent_of h r)) []) known
 
-pub line_off : (h : HistoryContent) (n : ℕ) (r : Revision) → is_known h r ≡ false → line h n r ≡ []
+pub line_off : (h : HistoryContent) (n : ℕ) (r : Revision) → is_known h r ≡ false → path_from h n r ≡ []
 line_off h zero r new = refl
-line_off h (suc n) r new = ap (λ b. cond b (r ∷ onward (λ p. line h n p) (parent_of h r)) []) new
+line_off h (suc n) r new = ap (λ b. cond b (r ∷ onward (λ p. path_from h n p) (parent_of h r)) []) new
 
-line_more : (h : HistoryContent) (n i : ℕ) (r : Revision) (e : Entry) → i < n → Some e ≡ get h r → line h (n - i) r ≡ r ∷ onward (λ p. line h (n - (i + 1)) p) e.parent
-line_more h n i r e lt is = let less : n - i ≡ suc (n - (i + 1)) = omega arith in ap (λ k. line h k r) less ∙ line_on h (n - (i + 1)) r (ap is_some (sym is))
-    ∙ ap (λ (o : Option Entry). r ∷ onward (λ p. line h (n - (i + 1)) p) (option_and_then (λ (x : Entry). x.parent) o)) (sym is)
+line_more : (h : HistoryContent) (n i : ℕ) (r : Revision) (e : Entry) → i < n → Some e ≡ get h r → path_from h (n - i) r ≡ r ∷ onward (λ p. path_from h (n - (i + 1)) p) e.parent
+line_more h n i r e lt is = let less : n - i ≡ suc (n - (i + 1)) = omega arith in ap (λ k. path_from h k r) less ∙ line_on h (n - (i + 1)) r (ap is_some (sym is))
+    ∙ ap (λ (o : Option Entry). r ∷ onward (λ p. path_from h (n - (i + 1)) p) (option_and_then (λ (x : Entry). x.parent) o)) (sym is)
 
 pub line_pushed : (h : HistoryContent) (n i : ℕ) (r : Revision) (e : Entry) (revs pushed whole : List Revision) (next after : Option Revision) → i < n → next ≡ Some r → Some e ≡ get h r → after ≡ e.parent → pushed ≡ revs ++ r ∷ []
-    → revs ++ onward (λ p. line h (n - i) p) next ≡ whole → pushed ++ onward (λ p. line h (n - (i + 1)) p) after ≡ whole
+    → revs ++ onward (λ p. path_from h (n - i) p) next ≡ whole → pushed ++ onward (λ p. path_from h (n - (i + 1)) p) after ≡ whole
 line_pushed h n i r e revs pushed whole next after lt is there up push so =
-    ap (λ (xs : List Revision). xs ++ onward (λ p. line h (n - (i + 1)) p) after) push
-    ∙ append_assoc revs (r ∷ []) (onward (λ p. line h (n - (i + 1)) p) after)
-    ∙ ap (λ (o : Option Revision). revs ++ (r ∷ onward (λ p. line h (n - (i + 1)) p) o)) up
+    ap (λ (xs : List Revision). xs ++ onward (λ p. path_from h (n - (i + 1)) p) after) push
+    ∙ append_assoc revs (r ∷ []) (onward (λ p. path_from h (n - (i + 1)) p) after)
+    ∙ ap (λ (o : Option Revision). revs ++ (r ∷ onward (λ p. path_from h (n - (i + 1)) p) o)) up
     ∙ ap (λ (xs : List Revision). revs ++ xs) (sym (line_more h n i r e lt there))
-    ∙ ap (λ (o : Option Revision). revs ++ onward (λ p. line h (n - i) p) o) (sym is)
+    ∙ ap (λ (o : Option Revision). revs ++ onward (λ p. path_from h (n - i) p) o) (sym is)
     ∙ so
 
 -- a line ends at a revision that is not known
 pub line_ended : (h : HistoryContent) (n : ℕ) (r : Revision) (revs whole : List Revision) (next : Option Revision) → next ≡ Some r → None ≡ get h r
-    → revs ++ onward (λ p. line h n p) next ≡ whole → revs ≡ whole
+    → revs ++ onward (λ p. path_from h n p) next ≡ whole → revs ≡ whole
 line_ended h n r revs whole next is there so =
-    sym (append-nil revs) ∙ ap (λ (xs : List Revision). revs ++ xs) (sym (line_off h n r (ap is_some (sym there)))) ∙ ap (λ (o : Option Revision). revs ++ onward (λ p. line h n p) o) (sym is) ∙ so
+    sym (append-nil revs) ∙ ap (λ (xs : List Revision). revs ++ xs) (sym (line_off h n r (ap is_some (sym there)))) ∙ ap (λ (o : Option Revision). revs ++ onward (λ p. path_from h n p) o) (sym is) ∙ so
 
 pub true_from_T : (b : Bool) → T b → b ≡ true
 true_from_T true h = refl

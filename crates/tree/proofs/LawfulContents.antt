@@ -3,8 +3,8 @@ use Rattle.std.proofs.Common.{◌≡◌, ◌⊎◌, ℕ, suc, Bool, true, false,
 use Rattle.std.specs.Prelude.{is_some, option_and_then}
 use Rattle.std.specs.FinMap.{get, same_map}
 use Rattle.tree.specs.Revision.{Revision}
-use Rattle.tree.specs.Write.{Write, counts_down, head, held_by, StandsIn, IsBehind, EndsWith, IsKnown, IsParent, IsBrought, IsPathEnd, AreWhole, IsLawful}
-use Rattle.tree.specs.History.{HistoryContent, is_known, parent_of, held_of, content_of, Shows, IsRooted, agrees, keeps_parents, is_head_known, placement, content_after, with_write, line, onward, chain, behind}
+use Rattle.tree.specs.Write.{Write, counts_down, head, held_of_write, StandsIn, IsBehind, EndsWith, IsKnown, IsParent, IsBrought, IsPathEnd, AreWhole, AreLawfulWrites}
+use Rattle.tree.specs.History.{HistoryContent, is_known, parent_of, held_of, content_of, Shows, IsRooted, agrees, keeps_parents, is_head_known, placement, content_after, with_write, path_from, onward, chain, ancestors_of_parent}
 use Rattle.tree.specs.declared.entry.Held.{Held}
 use Rattle.tree.specs.declared.entry.Entry.{Entry}
 use Rattle.tree.specs.declared.placement.Placed.{Placed}
@@ -17,7 +17,7 @@ use Rattle.tree.proofs.Continued.{same_parent_is, keeps_where_placed}
 
 -- ---- what every content of a lawful list is like
 
-pub rooted : (ws : List Write) → IsLawful ws → IsRooted (content_of ws)
+pub rooted : (ws : List Write) → AreLawfulWrites ws → IsRooted (content_of ws)
 rooted ws lawful = record {
   parents_known = λ r p e. (is_known_writes ws p).1 (parent_below ws r p lawful.whole ((shows.parent r p).0 e)).known;
   descends = λ r p e. (parent_below ws r p lawful.whole ((shows.parent r p).0 e)).number;
@@ -35,7 +35,7 @@ placed_in (s ∷ path) r (inr h) = elim (placed_in path r h) as (λ _. (Some s �
 
 pub head_or_parent : (ws : List Write) (r : Revision) → IsKnown ws r → ((d : Held) × IsBrought ws r d) ⊎ ((s : Revision) × IsParent ws s r)
 head_or_parent [] r h = elim h [ ]
-head_or_parent (w ∷ ws) r (inl h) = elim (placed_in w.path r h) as (λ _. ((d : Held) × IsBrought (w ∷ ws) r d) ⊎ ((s : Revision) × IsParent (w ∷ ws) s r)) [ inl e ↦ inl (held_by w, inl (e, refl)) | inr b ↦ inr (b.0, inl b.1) ]
+head_or_parent (w ∷ ws) r (inl h) = elim (placed_in w.path r h) as (λ _. ((d : Held) × IsBrought (w ∷ ws) r d) ⊎ ((s : Revision) × IsParent (w ∷ ws) s r)) [ inl e ↦ inl (held_of_write w, inl (e, refl)) | inr b ↦ inr (b.0, inl b.1) ]
 head_or_parent (w ∷ ws) r (inr h) = elim (head_or_parent ws r h) as (λ _. ((d : Held) × IsBrought (w ∷ ws) r d) ⊎ ((s : Revision) × IsParent (w ∷ ws) s r)) [ inl e ↦ inl (e.0, inr e.1) | inr b ↦ inr (b.0, inr b.1) ]
 
 -- ---- a path that was taken in
@@ -53,12 +53,12 @@ all_known h (s ∷ path) r root k known (inr i) = all_known h path r root (parts
         let up : e.0.parent ≡ Some t = same_parent_is e.0.parent (Some t) (ap (λ (o : Option Entry). agrees o (Some t)) (sym e.1) ∙ a) in
         root.parents_known s t (ap (option_and_then (λ (x : Entry). x.parent)) e.1 ∙ up)
 
-pub path_known : (ws : List Write) (w : Write) → IsLawful ws → (p : Placed) (r : Revision) → placement (content_of ws) w.path ≡ Ok p → StandsIn w.path r → is_known (content_after (content_of ws) w) r ≡ true
+pub path_known : (ws : List Write) (w : Write) → AreLawfulWrites ws → (p : Placed) (r : Revision) → placement (content_of ws) w.path ≡ Ok p → StandsIn w.path r → is_known (content_after (content_of ws) w) r ≡ true
 path_known ws w lawful p r placed i = by (is_head_known (content_of ws) w.path) refl
   where
     by : (b : Bool) → is_head_known (content_of ws) w.path ≡ b → is_known (cond b (content_of ws) (with_write (content_of ws) w)) r ≡ true
     by true known = all_known (content_of ws) w.path r (rooted ws lawful) (keeps_where_placed (content_of ws) w.path p placed) known i
-    by false new = ap is_some (write_shows (content_of ws) w r) ∙ right_some (get (content_of ws) r) _ (stands_found w.path (Some (held_by w)) r i)
+    by false new = ap is_some (write_shows (content_of ws) w r) ∙ right_some (get (content_of ws) r) _ (stands_found w.path (Some (held_of_write w)) r i)
 
 -- ---- chains
 
@@ -90,22 +90,22 @@ path_end (v ∷ ws) r rest w (inl e) = record { counts = end_counts v.path r res
 path_end (v ∷ ws) r rest w (inr e) = let k = path_end ws r rest w.1 e in record { counts = k.counts; known = inr k.known; parents = λ s p b. inr (k.parents s p b) }
 
 line_is : (h : HistoryContent) (r : Revision) (rest : List Revision) → counts_down (r ∷ rest) ≡ true → is_known h r ≡ true → ((s p : Revision) → IsBehind (r ∷ rest) s p → parent_of h s ≡ Some p) → IsRooted h → ((s : Revision) → s.number ≡ 1 → parent_of h s ≡ None)
-    → line h (length (r ∷ rest)) r ≡ r ∷ rest
+    → path_from h (length (r ∷ rest)) r ≡ r ∷ rest
 line_is h r [] w known up rooted root =
     let n = eqb-true r.number 1 (parts _ _ w).0 in
-    line_on h 0 r known ∙ ap (λ (o : Option Revision). r ∷ onward (λ p. line h 0 p) o) (root r n)
+    line_on h 0 r known ∙ ap (λ (o : Option Revision). r ∷ onward (λ p. path_from h 0 p) o) (root r n)
 line_is h r (s ∷ rest) w known up rooted root =
     let next = up r s (inl (refl, refl)) in
-    line_on h (length (s ∷ rest)) r known ∙ ap (λ (o : Option Revision). r ∷ onward (λ p. line h (length (s ∷ rest)) p) o) next
+    line_on h (length (s ∷ rest)) r known ∙ ap (λ (o : Option Revision). r ∷ onward (λ p. path_from h (length (s ∷ rest)) p) o) next
     ∙ ap (λ (xs : List Revision). r ∷ xs) (line_is h s rest (parts _ _ w).1 (rooted.parents_known r s next) (λ t p b. up t p (inr b)) rooted root)
 
-pub chain_is_path : (ws : List Write) → IsLawful ws → (r : Revision) (rest : List Revision) → IsPathEnd ws (r ∷ rest) → chain (content_of ws) r ≡ Some (r ∷ rest)
+pub chain_is_path : (ws : List Write) → AreLawfulWrites ws → (r : Revision) (rest : List Revision) → IsPathEnd ws (r ∷ rest) → chain (content_of ws) r ≡ Some (r ∷ rest)
 chain_is_path ws lawful r rest e =
     let k = path_end ws r rest lawful.whole e in
     let known = (is_known_writes ws r).1 k.known in
     let n = eqb-true r.number (suc (length rest)) (parts _ _ k.counts).0 in
-    ap (λ (b : Bool). cond b (Some (line (content_of ws) r.number r)) None) known
-    ∙ ap (λ (n : ℕ). Some (line (content_of ws) n r)) n
+    ap (λ (b : Bool). cond b (Some (path_from (content_of ws) r.number r)) None) known
+    ∙ ap (λ (n : ℕ). Some (path_from (content_of ws) n r)) n
     ∙ ap Some (line_is (content_of ws) r rest k.counts known (λ s p b. (shows.parent s p).1 (k.parents s p b)) (rooted ws lawful) root)
   where
     shows : Shows ws (content_of ws)
@@ -123,8 +123,8 @@ found_inside true path found e = cc
 found_inside false path found e = cc
 
 -- what stands behind a write that follows a revision of a lawful history
-pub behind_path : (ws : List Write) → IsLawful ws → (p : Revision) (rest : List Revision) → IsPathEnd ws (p ∷ rest) → behind (content_of ws) (Some p) ≡ p ∷ rest
-behind_path ws lawful p rest e = found_inside (is_known (content_of ws) p) (behind (content_of ws) (Some p)) (p ∷ rest) (chain_is_path ws lawful p rest e)
+pub behind_path : (ws : List Write) → AreLawfulWrites ws → (p : Revision) (rest : List Revision) → IsPathEnd ws (p ∷ rest) → ancestors_of_parent (content_of ws) (Some p) ≡ p ∷ rest
+behind_path ws lawful p rest e = found_inside (is_known (content_of ws) p) (ancestors_of_parent (content_of ws) (Some p)) (p ∷ rest) (chain_is_path ws lawful p rest e)
 
 -- ---- the content is the only one that shows so
 

@@ -10,7 +10,7 @@ use Rattle.std.specs.Cmp.{tied_itself, first_so, second_so}
 use Rattle.std.specs.FinMap.{find, get, entries, entries_sorted, get-entries, is_sorted}
 use Rattle.std.specs.FinMap.Entries.{below_all}
 use Rattle.tree.specs.Revision.{Revision, revision_cmp}
-use Rattle.tree.specs.Write.{Write, StandsIn, IsLawful}
+use Rattle.tree.specs.Write.{Write, StandsIn, AreLawfulWrites}
 use Rattle.tree.specs.History.{HistoryContent, is_known, parent_of, held_of, is_deleted, names, has_child, is_leaf, is_live, is_marked, is_leaf_in, leaves_marked, leaves, winner, IsBetter, BeatsAll, AreBestFirst, LooksAlike, content_of, Shows}
 use Rattle.tree.specs.declared.entry.Held.{Held}
 use Rattle.tree.specs.declared.entry.Entry.{Entry}
@@ -442,7 +442,7 @@ winner_same h k a = ap (λ (rs : List Revision). slice_get rs 0) (leaves_same h 
 
 -- ---- leaves of a lawful list of writes
 
-pub leaf_is_held : (ws : List Write) → IsLawful ws → (r : Revision) → IsTrue (is_leaf (content_of ws) r) → IsTrue (is_some (held_of (content_of ws) r))
+pub leaf_is_held : (ws : List Write) → AreLawfulWrites ws → (r : Revision) → IsTrue (is_leaf (content_of ws) r) → IsTrue (is_some (held_of (content_of ws) r))
 leaf_is_held ws lawful r l =
     let c = (leaf_is_childless (content_of ws) r).0 l in
     elim (head_or_parent ws r ((is_known_writes ws r).0 c.0)) as (λ _. is_some (held_of (content_of ws) r) ≡ true) [

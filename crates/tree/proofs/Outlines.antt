@@ -3,10 +3,10 @@ use Rattle.std.proofs.Common.{◌≡◌, Bool, true, false, cond, ◌&&◌, List
 use Rattle.std.specs.Prelude.{is_some, not, option_and_then, option_map, Result, Ok, Err}
 use Rattle.std.specs.Ordering.{eq_by_cmp}
 use Rattle.std.specs.FinMap.{empty, entries, find, get, get-empty, get-entries, get-from_entries}
-use Rattle.tree.specs.History.{HistoryContent, agrees, chain, is_deleted, is_head_known, is_known, held_of, keeps_parents, leaves, line, onward, parent_of, placement, winner, with_entries, LooksAlike}
+use Rattle.tree.specs.History.{HistoryContent, agrees, chain, is_deleted, is_head_known, is_known, held_of, keeps_parents, leaves, path_from, onward, parent_of, placement, winner, with_entries, LooksAlike}
 use Rattle.tree.specs.Outline.{all_bare, bare, held_bare, outline_of}
 use Rattle.tree.specs.Revision.{Revision, revision_cmp}
-use Rattle.tree.specs.Write.{head, is_whole}
+use Rattle.tree.specs.Write.{head, is_whole_path}
 use Rattle.tree.specs.declared.entry.Entry.{Entry}
 use Rattle.tree.specs.declared.entry.Held.{Held}
 use Rattle.tree.specs.declared.placement.Placed.{Placed}
@@ -84,20 +84,20 @@ winner_in h = winner_same (outline_of h) h (alike h)
 
 -- ---- paths
 
-line_in : (h : HistoryContent) (n : ℕ) (r : Revision) → line (outline_of h) n r ≡ line h n r
+line_in : (h : HistoryContent) (n : ℕ) (r : Revision) → path_from (outline_of h) n r ≡ path_from h n r
 line_in h zero r = refl
 line_in h (suc n) r =
-    ap (λ b. cond b (r ∷ onward (λ p. line (outline_of h) n p) (parent_of (outline_of h) r)) []) (is_known_in h r)
-    ∙ ap (λ q. cond (is_known h r) (r ∷ onward (λ p. line (outline_of h) n p) q) []) (parent_in h r)
+    ap (λ b. cond b (r ∷ onward (λ p. path_from (outline_of h) n p) (parent_of (outline_of h) r)) []) (is_known_in h r)
+    ∙ ap (λ q. cond (is_known h r) (r ∷ onward (λ p. path_from (outline_of h) n p) q) []) (parent_in h r)
     ∙ ap (λ rest. cond (is_known h r) (r ∷ rest) []) (behind (λ p. line_in h n p) (parent_of h r))
   where
-    behind : ((p : Revision) → line (outline_of h) n p ≡ line h n p) → (q : Option Revision) → onward (λ p. line (outline_of h) n p) q ≡ onward (λ p. line h n p) q
+    behind : ((p : Revision) → path_from (outline_of h) n p ≡ path_from h n p) → (q : Option Revision) → onward (λ p. path_from (outline_of h) n p) q ≡ onward (λ p. path_from h n p) q
     behind below None = refl
     behind below (Some p) = below p
 
 pub chain_in : (h : HistoryContent) (r : Revision) → chain (outline_of h) r ≡ chain h r
 chain_in h r =
-    ap (λ b. cond b (Some (line (outline_of h) r.number r)) None) (is_known_in h r)
+    ap (λ b. cond b (Some (path_from (outline_of h) r.number r)) None) (is_known_in h r)
     ∙ ap (λ l. cond (is_known h r) (Some l) None) (line_in h r.number r)
 
 keeps_in : (h : HistoryContent) (path : List Revision) → keeps_parents (outline_of h) path ≡ keeps_parents h path
@@ -115,4 +115,4 @@ pub placement_in : (h : HistoryContent) (path : List Revision) → placement (ou
 placement_in h path = ap (λ b. judged b (is_head_known (outline_of h) path)) (keeps_in h path) ∙ ap (judged (keeps_parents h path)) (head_in h path)
   where
     judged : Bool → Bool → Result Placed TreeFault
-    judged keeps is_head = cond (not (is_whole path)) (Err BadPath) (cond (not keeps) (Err OtherParent) (cond is_head (Ok Known) (Ok Added)))
+    judged keeps is_head = cond (not (is_whole_path path)) (Err BadPath) (cond (not keeps) (Err OtherParent) (cond is_head (Ok Known) (Ok Added)))

@@ -4,7 +4,7 @@ use Rattle.std.specs.Prelude.{IsTrue, is_some, option_and_then, flat_map, ◌↔
 use Rattle.std.specs.Ordering.{eq_by_cmp}
 use Rattle.std.specs.FinMap.{find, get}
 use Rattle.tree.specs.Revision.{Revision, revision_cmp}
-use Rattle.tree.specs.Write.{Write, is_whole, counts_down, head, held_by, StandsIn, IsBehind, IsKnown, IsParent, IsBrought, AreWhole, IsLawful}
+use Rattle.tree.specs.Write.{Write, is_whole_path, counts_down, head, held_of_write, StandsIn, IsBehind, IsKnown, IsParent, IsBrought, AreWhole, AreLawfulWrites}
 use Rattle.tree.specs.History.{HistoryContent, is_known, parent_of, held_of, path_entries, write_entries, content_of, Shows}
 use Rattle.tree.specs.declared.entry.Held.{Held}
 use Rattle.tree.specs.declared.entry.Entry.{Entry}
@@ -101,7 +101,7 @@ behind_below (s ∷ path) r p w (inr b) =
     let k = behind_below path r p (parts _ _ w).1 b in
     record { number = k.number; positive = k.positive; stands = inr k.stands }
 
-pub whole_counts : (path : List Revision) → is_whole path ≡ true → counts_down path ≡ true
+pub whole_counts : (path : List Revision) → is_whole_path path ≡ true → counts_down path ≡ true
 whole_counts [] h = refl
 whole_counts (r ∷ path) h = h
 
@@ -121,14 +121,14 @@ right_some (Some x) b h = refl
 
 pub known_found : (ws : List Write) (r : Revision) → IsKnown ws r → is_some (find revision_cmp r (flat_map write_entries ws)) ≡ true
 known_found [] r h = elim h [ ]
-known_found (w ∷ ws) r (inl h) = ap is_some (find-append r (write_entries w) (flat_map write_entries ws)) ∙ left_some _ _ (stands_found w.path (Some (held_by w)) r h)
+known_found (w ∷ ws) r (inl h) = ap is_some (find-append r (write_entries w) (flat_map write_entries ws)) ∙ left_some _ _ (stands_found w.path (Some (held_of_write w)) r h)
 known_found (w ∷ ws) r (inr h) = ap is_some (find-append r (write_entries w) (flat_map write_entries ws)) ∙ right_some (find revision_cmp r (write_entries w)) _ (known_found ws r h)
 
 pub found_known : (ws : List Write) (r : Revision) → is_some (find revision_cmp r (flat_map write_entries ws)) ≡ true → IsKnown ws r
 found_known [] r h = cc
 found_known (w ∷ ws) r h =
     elim (either (find revision_cmp r (write_entries w)) (find revision_cmp r (flat_map write_entries ws)) (ap is_some (sym (find-append r (write_entries w) (flat_map write_entries ws))) ∙ h)) as (λ _. IsKnown (w ∷ ws) r) [
-      | inl k ↦ inl (found_stands w.path (Some (held_by w)) r k)
+      | inl k ↦ inl (found_stands w.path (Some (held_of_write w)) r k)
       | inr k ↦ inr (found_known ws r k)
     ]
 
@@ -159,11 +159,11 @@ pub parent_at : (before after : List Write) (w : Write) (r p : Revision) → IsB
 parent_at [] after w r p b = inl b
 parent_at (v ∷ before) after w r p b = inr (parent_at before after w r p b)
 
-brought_at : (before after : List Write) (w : Write) (r : Revision) (d : Held) → head w.path ≡ Some r → held_by w ≡ d → IsBrought (before ++ w ∷ after) r d
+brought_at : (before after : List Write) (w : Write) (r : Revision) (d : Held) → head w.path ≡ Some r → held_of_write w ≡ d → IsBrought (before ++ w ∷ after) r d
 brought_at [] after w r d h e = inl (h, e)
 brought_at (v ∷ before) after w r d h e = inr (brought_at before after w r d h e)
 
-pub whole_at : (before after : List Write) (w : Write) → AreWhole (before ++ w ∷ after) → is_whole w.path ≡ true
+pub whole_at : (before after : List Write) (w : Write) → AreWhole (before ++ w ∷ after) → is_whole_path w.path ≡ true
 whole_at [] after w h = h.0
 whole_at (v ∷ before) after w h = whole_at before after w h.1
 
@@ -212,7 +212,7 @@ from_entry {X} h r f x k = by (get h r) refl k
     by None is t = cc
     by (Some e) is t = (e, is, t)
 
-parents_shown : (ws : List Write) → IsLawful ws → (r p : Revision) → (parent_of (content_of ws) r ≡ Some p) ↔ IsParent ws r p
+parents_shown : (ws : List Write) → AreLawfulWrites ws → (r p : Revision) → (parent_of (content_of ws) r ≡ Some p) ↔ IsParent ws r p
 parents_shown ws lawful r p = (there, back)
   where
     there : parent_of (content_of ws) r ≡ Some p → IsParent ws r p
@@ -238,7 +238,7 @@ record Bringer (ws : List Write) (r : Revision) (d : Held) : Type 0 where
   write : Write
   split : before ++ write ∷ after ≡ ws
   is_head : head write.path ≡ Some r
-  brings : held_by write ≡ d
+  brings : held_of_write write ≡ d
 
 bringer : (ws : List Write) (r : Revision) (d : Held) → IsBrought ws r d → Bringer ws r d
 bringer [] r d h = elim h [ ]
@@ -252,30 +252,30 @@ find_split [] after w r e new f = find-append r (write_entries w) (flat_map writ
 find_split (v ∷ before) after w r e new f =
     find-append r (write_entries v) (flat_map write_entries (before ++ w ∷ after))
     ∙ passed (find revision_cmp r (write_entries v)) (find revision_cmp r (flat_map write_entries (before ++ w ∷ after))) (Some e)
-    (λ k. new (inl (found_stands v.path (Some (held_by v)) r k)))
+    (λ k. new (inl (found_stands v.path (Some (held_of_write v)) r k)))
     (find_split before after w r e (λ k. new (inr k)) f)
   where
     passed : (a b c : Option Entry) → (is_some a ≡ true → ⊥) → b ≡ c → or a b ≡ c
     passed None b c not_there is = is
     passed (Some x) b c not_there is = absurd (not_there refl)
 
-held_shown : (ws : List Write) → IsLawful ws → (r : Revision) (d : Held) → (held_of (content_of ws) r ≡ Some d) ↔ IsBrought ws r d
+held_shown : (ws : List Write) → AreLawfulWrites ws → (r : Revision) (d : Held) → (held_of (content_of ws) r ≡ Some d) ↔ IsBrought ws r d
 held_shown ws lawful r d = (there, back)
   where
     there : held_of (content_of ws) r ≡ Some d → IsBrought ws r d
     there k =
         let e = from_entry (content_of ws) r (λ (x : Entry). x.held) d k in
         let s = source ws r e.0 (sym (get-content ws r) ∙ e.1) in
-        let b = held_head s.write.path (Some (held_by s.write)) r e.0 d s.found e.2 in
-        subst (λ xs. IsBrought xs r d) s.split (brought_at s.before s.after s.write r d b.0 (inside (held_by s.write) d b.1))
+        let b = held_head s.write.path (Some (held_of_write s.write)) r e.0 d s.found e.2 in
+        subst (λ xs. IsBrought xs r d) s.split (brought_at s.before s.after s.write r d b.0 (inside (held_of_write s.write) d b.1))
 
     back : IsBrought ws r d → held_of (content_of ws) r ≡ Some d
     back k =
         let b = bringer ws r d k in
-        let f = head_found b.write.path (Some (held_by b.write)) r b.is_head in
+        let f = head_found b.write.path (Some (held_of_write b.write)) r b.is_head in
         let g = find_split b.before b.after b.write r f.0 (lawful.heads_new b.before b.after b.write r b.split b.is_head) f.1 in
         ap (option_and_then (λ (x : Entry). x.held)) (get-content ws r ∙ ap (λ xs. find revision_cmp r (flat_map write_entries xs)) (sym b.split) ∙ g)
         ∙ f.2 ∙ ap Some b.brings
 
-pub shown : (ws : List Write) → IsLawful ws → Shows ws (content_of ws)
+pub shown : (ws : List Write) → AreLawfulWrites ws → Shows ws (content_of ws)
 shown ws lawful = record { known = is_known_writes ws; parent = parents_shown ws lawful; held = held_shown ws lawful }

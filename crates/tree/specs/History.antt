@@ -7,7 +7,7 @@ use Rattle.std.specs.declared.cmp.Ordering.TheVariants.{Greater}
 use Rattle.std.specs.FinMap.{FinMap, get, contains_key, insert, entries, from_entries, find}
 use Rattle.couch_json.specs.Value.{Value}
 use Rattle.tree.specs.Revision.{Revision, revision_cmp}
-use Rattle.tree.specs.Write.{Write, is_whole, head, held_by, IsKnown, IsParent, IsBrought, IsLawful}
+use Rattle.tree.specs.Write.{Write, is_whole_path, head, held_of_write, IsKnown, IsParent, IsBrought, AreLawfulWrites}
 use Rattle.tree.specs.declared.entry.Held.{Held}
 use Rattle.tree.specs.declared.entry.Entry.{Entry}
 use Rattle.tree.specs.declared.placement.Placed.{Placed}
@@ -114,18 +114,18 @@ onward rest None = []
 onward rest (Some p) = rest p
 
 -- r, its parent, and so on, at most n of them, up to one that is not known
-abbrev pub line : HistoryContent → ℕ → Revision → List Revision
-line h zero r = []
-line h (suc n) r = if is_known h r then r ∷ onward (λ p. line h n p) (parent_of h r) else []
+abbrev pub path_from : HistoryContent → ℕ → Revision → List Revision
+path_from h zero r = []
+path_from h (suc n) r = if is_known h r then r ∷ onward (λ p. path_from h n p) (parent_of h r) else []
 
 -- the path of a known revision
 abbrev pub chain : HistoryContent → Revision → Option (List Revision)
-chain h r = if is_known h r then Some (line h r.number r) else None
+chain h r = if is_known h r then Some (path_from h r.number r) else None
 
 -- what stands behind a write that follows this revision: the path of one that is known, else nothing
-abbrev pub behind : HistoryContent → Option Revision → List Revision
-behind h None = []
-behind h (Some p) = line h p.number p
+abbrev pub ancestors_of_parent : HistoryContent → Option Revision → List Revision
+ancestors_of_parent h None = []
+ancestors_of_parent h (Some p) = path_from h p.number p
 
 -- ---- writes
 
@@ -136,7 +136,7 @@ path_entries d (r ∷ rest) = (r, record { parent = head rest; held = d }) ∷ p
 
 -- the revisions of a write with their parents, and what it holds of the newest
 abbrev pub write_entries : Write → List (Revision × Entry)
-write_entries w = path_entries (Some (held_by w)) w.path
+write_entries w = path_entries (Some (held_of_write w)) w.path
 
 -- The content of a list of writes, in the order of acceptance: each revision has what the first path
 -- in which it stands says of it.
@@ -153,8 +153,8 @@ with_entries h [] = h
 with_entries h (e ∷ es) = with_entries (with_new h e.0 e.1) es
 
 -- what a stored row says of its revision: the parent, and the mark and the body that are held
-abbrev pub row_of : Option Revision → Option (Bool × Value) → Entry
-row_of parent held = record { parent = parent; held = option_map (λ d. record { deleted = d.0; body = d.1 }) held }
+abbrev pub entry_of_row : Option Revision → Option (Bool × Value) → Entry
+entry_of_row parent held = record { parent = parent; held = option_map (λ d. record { deleted = d.0; body = d.1 }) held }
 
 -- the content after one more write
 abbrev pub with_write : HistoryContent → Write → HistoryContent
@@ -189,7 +189,7 @@ is_head_known h (r ∷ rest) = is_known h r
 -- what becomes of a write with this path
 abbrev pub placement : HistoryContent → List Revision → Result Placed TreeFault
 placement h path =
-    if not (is_whole path) then Err BadPath
+    if not (is_whole_path path) then Err BadPath
     else if not (keeps_parents h path) then Err OtherParent
     else if is_head_known h path then Ok Known
     else Ok Added
@@ -201,7 +201,7 @@ content_after h w = if is_head_known h w.path then h else with_write h w
 -- what stands behind the old content, with this write at its end, is lawful and stands behind the new
 abbrev pub IsWithWrite : HistoryContent → Write → HistoryContent → Type 0
 IsWithWrite old w new =
-    (ws : List Write) → IsLawful ws → old ≡ content_of ws → IsLawful (ws ++ w ∷ []) × (new ≡ content_of (ws ++ w ∷ []))
+    (ws : List Write) → AreLawfulWrites ws → old ≡ content_of ws → AreLawfulWrites (ws ++ w ∷ []) × (new ≡ content_of (ws ++ w ∷ []))
 
 -- ---- what a content says of the writes behind it
 

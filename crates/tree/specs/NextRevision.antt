@@ -18,13 +18,13 @@ hash_before None = []
 hash_before (Some r) = r.hash
 
 -- what the hash is taken of: the deletion mark, the number and the hash before, and the body
-abbrev pub edit_after : ℕ → List ℕ → Bool → Value → Value
-edit_after number hash deleted body =
+abbrev pub hashed_edit : ℕ → List ℕ → Bool → Value → Value
+hashed_edit number hash deleted body =
     array (item (truth deleted) (item (whole (pos number)) (item (text hash) (item body no_items))))
 
 -- an edit as a value: the parent, whether it deletes, and the body
 abbrev pub edit_value : Option Revision → Bool → Value → Value
-edit_value parent deleted body = edit_after (number_before parent) (hash_before parent) deleted body
+edit_value parent deleted body = hashed_edit (number_before parent) (hash_before parent) deleted body
 
 -- the revision of an edit: the next number, and the MD5 of the edit as a value
 abbrev pub next_revision : Option Revision → Bool → Value → Revision

@@ -18,9 +18,9 @@ counts_down [] = true
 counts_down (r ∷ rest) = (r.number == suc (length rest)) && counts_down rest
 
 -- a path is whole where it leads from its newest revision down to a first one
-abbrev pub is_whole : List Revision → Bool
-is_whole [] = false
-is_whole (r ∷ rest) = counts_down (r ∷ rest)
+abbrev pub is_whole_path : List Revision → Bool
+is_whole_path [] = false
+is_whole_path (r ∷ rest) = counts_down (r ∷ rest)
 
 -- the newest revision of a path, if it has one
 abbrev pub head : List Revision → Option Revision
@@ -28,8 +28,8 @@ head [] = None
 head (r ∷ rest) = Some r
 
 -- what the write brings for its head
-abbrev pub held_by : Write → Held
-held_by w = record { deleted = w.deleted; body = w.body }
+abbrev pub held_of_write : Write → Held
+held_of_write w = record { deleted = w.deleted; body = w.body }
 
 -- a revision is one of a path
 abbrev pub StandsIn : List Revision → Revision → Type 0
@@ -59,7 +59,7 @@ IsParent (w ∷ ws) r p = IsBehind w.path r p ⊎ IsParent ws r p
 -- one of the writes has r as its head, and brings d
 abbrev pub IsBrought : List Write → Revision → Held → Type 0
 IsBrought [] r d = ⊥
-IsBrought (w ∷ ws) r d = ((head w.path ≡ Some r) × (held_by w ≡ d)) ⊎ IsBrought ws r d
+IsBrought (w ∷ ws) r d = ((head w.path ≡ Some r) × (held_of_write w ≡ d)) ⊎ IsBrought ws r d
 
 -- the path of one of the writes ends so
 abbrev pub IsPathEnd : List Write → List Revision → Type 0
@@ -69,11 +69,11 @@ IsPathEnd (w ∷ ws) end = EndsWith w.path end ⊎ IsPathEnd ws end
 -- each write has a path without gaps
 abbrev pub AreWhole : List Write → Type 0
 AreWhole [] = ⊤
-AreWhole (w ∷ ws) = IsTrue (is_whole w.path) × AreWhole ws
+AreWhole (w ∷ ws) = IsTrue (is_whole_path w.path) × AreWhole ws
 
 -- In the order of acceptance: the paths are whole, each write makes a revision that was not known before, and
 -- all writes agree on the parent of a revision.
-pub record IsLawful (ws : List Write) : Type 0 where
+pub record AreLawfulWrites (ws : List Write) : Type 0 where
   pub whole : AreWhole ws
   pub heads_new : (before after : List Write) (w : Write) (r : Revision) → before ++ w ∷ after ≡ ws → head w.path ≡ Some r → ¬ (IsKnown before r)
   pub one_parent : (r p q : Revision) → IsParent ws r p → IsParent ws r q → p ≡ q

@@ -2,9 +2,10 @@ ghost use Rattle.std.specs.Prelude.{◌≡◌, ◌≢◌, ◌++◌, Option, Some
 ghost use Rattle.std.specs.Prelude.{IsTrue, MatchOption, length, option_copied, option_map, slice_get};
 ghost use Rattle.std.specs.FinMap as map;
 ghost use Rattle.couch_json.specs.View.{view};
-ghost use Rattle.tree.specs.Write.{counts_down, head, is_whole};
-ghost use Rattle.tree.specs.History.{IsWithWrite, agrees, behind, chain, has_child, held_of, is_deleted, is_head_known, is_known, is_leaf, is_leaf_in};
-ghost use Rattle.tree.specs.History.{is_live, keeps_parents, leaves, leaves_marked, line, placement, row_of, winner, with_new, with_write};
+ghost use Rattle.tree.specs.Write.{counts_down, head, is_whole_path};
+ghost use Rattle.tree.specs.History.{IsWithWrite, agrees, ancestors_of_parent, chain, has_child, held_of, is_deleted, is_head_known, is_known, is_leaf};
+ghost use Rattle.tree.specs.History.{is_leaf_in};
+ghost use Rattle.tree.specs.History.{is_live, keeps_parents, leaves, leaves_marked, path_from, placement, entry_of_row, winner, with_new, with_write};
 ghost use Rattle.tree.specs.Outline.{marked_winner, outline_of};
 
 use crate::body::Body;
@@ -131,7 +132,7 @@ impl History {
     /// of `path`, however much stands behind it.
     pub fn put(&mut self, path: &[Rev], parent: Option<Rev>, deleted: bool, body: &Json) -> Got<()>
         ensures ok { OnOk result (self.new ≡ with_write self.old
-            (record { path = path.now ++ behind self.old parent; deleted = deleted; body = view body.now })) }
+            (record { path = path.now ++ ancestors_of_parent self.old parent; deleted = deleted; body = view body.now })) }
         ensures err { OnErr result (self.new ≡ self.old) }
     {
         let alloc = self.alloc;
@@ -160,7 +161,7 @@ impl History {
         parent: Option<Rev>,
         held: Option<(bool, Json)>,
     ) -> Got<()>
-        ensures ok { OnOk result (self.new ≡ with_new self.old rev (row_of parent (option_map (λ h. (h.0, view h.1)) held))) }
+        ensures ok { OnOk result (self.new ≡ with_new self.old rev (entry_of_row parent (option_map (λ h. (h.0, view h.1)) held))) }
         ensures err { OnErr result (self.new ≡ self.old) }
     {
         let held = match held {
@@ -209,7 +210,7 @@ impl History {
         if !self.knows(rev) {
             return Ok(None);
         }
-        Ok(Some(self.line(rev)?))
+        Ok(Some(self.path_from(rev)?))
     }
 
     /// Tells whether a revision is deleted, and its body; `None` where it is not known or only came
@@ -291,7 +292,7 @@ impl History {
 
     /// Returns the parent of a write where it is known.
     pub fn known_parent(&self, parent: Option<Rev>) -> Option<Rev>
-        ensures { result ≡ head (behind self.now parent) }
+        ensures { result ≡ head (ancestors_of_parent self.now parent) }
     {
         let parent = parent?;
         prove!(parent.number() > 0);
@@ -400,8 +401,8 @@ impl History {
 
     /// Returns the revision, its parent, and so on, up to one that is not known, and at most as many as its
     /// number says.
-    fn line(&self, rev: &Rev) -> Got<Vec<Rev>>
-        ensures { IfOk result (λ revs. revs.items ≡ line self.now rev.now.number rev.now) }
+    fn path_from(&self, rev: &Rev) -> Got<Vec<Rev>>
+        ensures { IfOk result (λ revs. revs.items ≡ path_from self.now rev.now.number rev.now) }
     {
         let mut revs = Vec::new(self.alloc);
         let mut next = Some(*rev);
@@ -421,7 +422,7 @@ impl History {
 
 /// Tells whether the numbers of a path go down by one to 1.
 fn is_whole(path: &[Rev]) -> bool
-    ensures { result ≡ is_whole path.now }
+    ensures { result ≡ is_whole_path path.now }
 {
     !path.is_empty() && counts_down(path)
 }

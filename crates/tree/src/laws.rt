@@ -4,8 +4,9 @@ ghost use Rattle.std.specs.Prelude.{◌≡◌, ◌≢◌, ◌⊎◌, ◌↔◌, 
 ghost use Rattle.std.specs.FinMap.{find, get};
 ghost use Rattle.std.specs.FinMap as map;
 ghost use Rattle.tree.specs.Revision.{Revision, is_revision, revision_cmp, revision_read, text_of};
-ghost use Rattle.tree.specs.Write.{Write, IsKnown, IsLawful, IsParent, IsPathEnd, StandsIn};
-ghost use Rattle.tree.specs.History.{HistoryContent, AreBestFirst, IsBetter, IsRooted, LooksAlike, Shows, behind, chain, content_of, entry_after, held_of};
+ghost use Rattle.tree.specs.Write.{Write, IsKnown, AreLawfulWrites, IsParent, IsPathEnd, StandsIn};
+ghost use Rattle.tree.specs.History.{HistoryContent, AreBestFirst, IsBetter, IsRooted, LooksAlike, Shows, ancestors_of_parent, chain, content_of};
+ghost use Rattle.tree.specs.History.{entry_after, held_of};
 ghost use Rattle.tree.specs.History.{content_after, is_deleted, is_known, is_leaf, is_live, leaves, parent_of, placement, winner, with_entries, with_write};
 ghost use Rattle.tree.specs.Outline.{all_bare, bare, outline_of};
 ghost use Rattle.tree.specs.Convergence.{AreConsistent, BringOne, HaveSame, replica_of};
@@ -22,7 +23,7 @@ pub fn text_and_revision()
 /// The content of a lawful list of writes shows just what is known by the writes, and no other
 /// content does.
 pub fn content_shows_its_writes()
-    ensures shows { (ws : List Write) → IsLawful ws → Shows ws (content_of ws) }
+    ensures shows { (ws : List Write) → AreLawfulWrites ws → Shows ws (content_of ws) }
     ensures only { (ws : List Write) (h k : HistoryContent) → Shows ws h → Shows ws k → h ≡ k }
 {}
 
@@ -33,8 +34,8 @@ pub fn content_of_one_more_write()
 
 /// A write is added if and only if the list with it at its end is lawful.
 pub fn added_where_lawful()
-    ensures { (ws : List Write) (w : Write) → IsLawful ws
-        → (placement (content_of ws) w.path ≡ Ok Placed.Added) ↔ IsLawful (ws ++ w ∷ []) }
+    ensures { (ws : List Write) (w : Write) → AreLawfulWrites ws
+        → (placement (content_of ws) w.path ≡ Ok Placed.Added) ↔ AreLawfulWrites (ws ++ w ∷ []) }
 {}
 
 /// A write keeps what is known of each known revision.
@@ -56,29 +57,29 @@ pub fn rows_make_the_history()
 
 /// After a write that was added or known, its whole path is known.
 pub fn path_known()
-    ensures { (ws : List Write) (w : Write) (p : Placed) (r : Revision) → IsLawful ws
+    ensures { (ws : List Write) (w : Write) (p : Placed) (r : Revision) → AreLawfulWrites ws
         → placement (content_of ws) w.path ≡ Ok p → StandsIn w.path r → IsTrue (is_known (content_after (content_of ws) w) r) }
 {}
 
 /// Parents are known, numbers go down by one from child to parent, and roots have number 1.
 pub fn whole()
-    ensures { (ws : List Write) → IsLawful ws → IsRooted (content_of ws) }
+    ensures { (ws : List Write) → AreLawfulWrites ws → IsRooted (content_of ws) }
 {}
 
 /// A path that some write brought, or its end, is the chain of its newest revision.
 pub fn chain_is_path()
-    ensures { (ws : List Write) (r : Revision) (rest : List Revision) → IsLawful ws
+    ensures { (ws : List Write) (r : Revision) (rest : List Revision) → AreLawfulWrites ws
         → IsPathEnd ws (r ∷ rest) → chain (content_of ws) r ≡ Some (r ∷ rest) }
 {}
 
 /// Behind a write that follows a known revision stands the path of that revision, of which all is
 /// known; behind one that follows no known revision stands nothing.
 pub fn behind_is_chain()
-    ensures known { (h : HistoryContent) (p : Revision) → IsTrue (is_known h p) → chain h p ≡ Some (behind h (Some p)) }
-    ensures unknown { (h : HistoryContent) (p : Revision) → is_known h p ≡ false → behind h (Some p) ≡ [] }
-    ensures all_known { (h : HistoryContent) (p : Option Revision) (r : Revision) → StandsIn (behind h p) r → IsTrue (is_known h r) }
-    ensures path { (ws : List Write) (p : Revision) (rest : List Revision) → IsLawful ws
-        → IsPathEnd ws (p ∷ rest) → behind (content_of ws) (Some p) ≡ p ∷ rest }
+    ensures known { (h : HistoryContent) (p : Revision) → IsTrue (is_known h p) → chain h p ≡ Some (ancestors_of_parent h (Some p)) }
+    ensures unknown { (h : HistoryContent) (p : Revision) → is_known h p ≡ false → ancestors_of_parent h (Some p) ≡ [] }
+    ensures all_known { (h : HistoryContent) (p : Option Revision) (r : Revision) → StandsIn (ancestors_of_parent h p) r → IsTrue (is_known h r) }
+    ensures path { (ws : List Write) (p : Revision) (rest : List Revision) → AreLawfulWrites ws
+        → IsPathEnd ws (p ∷ rest) → ancestors_of_parent (content_of ws) (Some p) ≡ p ∷ rest }
 {}
 
 /// States that a leaf is known, and that no revision follows it.
@@ -89,7 +90,7 @@ pub fn leaf_is_childless()
 
 /// Something is held of each leaf.
 pub fn leaf_is_held()
-    ensures { (ws : List Write) (r : Revision) → IsLawful ws → IsTrue (is_leaf (content_of ws) r)
+    ensures { (ws : List Write) (r : Revision) → AreLawfulWrites ws → IsTrue (is_leaf (content_of ws) r)
         → IsTrue (is_some (held_of (content_of ws) r)) }
 {}
 
@@ -156,6 +157,6 @@ pub fn merged_has_all_writes()
 
 /// A lawful list fits together, and what is offered its writes has their content.
 pub fn lawful_writes_merge()
-    ensures fit { (ws : List Write) → IsLawful ws → AreConsistent ws }
-    ensures content { (ws : List Write) → IsLawful ws → replica_of ws ≡ content_of ws }
+    ensures fit { (ws : List Write) → AreLawfulWrites ws → AreConsistent ws }
+    ensures content { (ws : List Write) → AreLawfulWrites ws → replica_of ws ≡ content_of ws }
 {}

@@ -6,7 +6,7 @@ ghost use Rattle.std.specs.Char.{is_ascii_alphanumeric};
 ghost use Rattle.hex.specs.Hex.{encode_lower};
 ghost use Rattle.md5.specs.Md5.{md5};
 ghost use Rattle.tree.specs.Revision.{greatest_number, is_hash};
-ghost use Rattle.tree.specs.NextRevision.{edit_after, next_revision, number_before};
+ghost use Rattle.tree.specs.NextRevision.{hashed_edit, next_revision, number_before};
 ghost use Rattle.tree.specs.declared.next_revision.RevFault.TheVariants.{Memory};
 
 use crate::revision::Rev;
@@ -72,7 +72,7 @@ fn hash_revision(alloc: Global, number: u32, hash: &str, deleted: bool, body: &J
     requires bounded { number < greatest_number }
     requires plain { IsTrue (list_all is_ascii_alphanumeric hash.now) }
     ensures { IfOk result (λ r. r
-        ≡ record { number = number + 1; hash = encode_lower (md5 (canonical (edit_after number hash.now deleted (view body.now)))) }) }
+        ≡ record { number = number + 1; hash = encode_lower (md5 (canonical (hashed_edit number hash.now deleted (view body.now)))) }) }
 {
     let text = edit_text(alloc, number, hash, deleted, body)?;
     Ok(Rev::from_parts(number + 1, &digest(text.as_bytes())))
@@ -80,7 +80,7 @@ fn hash_revision(alloc: Global, number: u32, hash: &str, deleted: bool, body: &J
 
 fn edit_text(alloc: Global, number: u32, hash: &str, deleted: bool, body: &Json) -> Got<String>
     requires { IsTrue (list_all is_ascii_alphanumeric hash.now) }
-    ensures { IfOk result (λ text. string_bytes text ≡ canonical (edit_after number hash.now deleted (view body.now))) }
+    ensures { IfOk result (λ text. string_bytes text ≡ canonical (hashed_edit number hash.now deleted (view body.now))) }
 {
     let body = canon(alloc, body)?;
     Ok(format!(in alloc; "[{deleted},{number},\"{hash}\",{body}]")?)

@@ -1,7 +1,7 @@
 ghost use Rattle.std.specs.Prelude.{◌≡◌, IfOk, OnErr, OnOk, option_map};
 ghost use Rattle.std.specs.FinMap as map;
 ghost use Rattle.couch_json.specs.Value.{null};
-ghost use Rattle.tree.specs.History.{chain, is_known, leaves, row_of, with_new};
+ghost use Rattle.tree.specs.History.{chain, is_known, leaves, entry_of_row, with_new};
 ghost use Rattle.tree.specs.Outline.{outline_of};
 
 use crate::history::History;
@@ -58,7 +58,7 @@ impl Outline {
     /// Takes in one revision of a stored history, with its parent, and its mark where something is held of
     /// it; a known revision keeps what is known of it.
     pub fn put_revision(&mut self, rev: Rev, parent: Option<Rev>, mark: Option<bool>) -> Got<()>
-        ensures ok { OnOk result (self.new ≡ with_new self.old rev (row_of parent (option_map (λ deleted. (deleted, null)) mark))) }
+        ensures ok { OnOk result (self.new ≡ with_new self.old rev (entry_of_row parent (option_map (λ deleted. (deleted, null)) mark))) }
         ensures err { OnErr result (self.new ≡ self.old) }
     {
         let held = match mark {

@@ -2,7 +2,7 @@
 
 ghost use Rattle.std.specs.Prelude.{◌≡◌, IfOk};
 ghost use Rattle.couch_json.specs.View.{view, members_view};
-ghost use Rattle.tree.specs.ShownDocument.{members_in, shown_document, shown_members};
+ghost use Rattle.tree.specs.ShownDocument.{body_members, document_at_revision, shown_members};
 
 use crate::document_id::DocId;
 use crate::revision::Rev;
@@ -13,7 +13,7 @@ use std::alloc::Global;
 ///
 /// Rules, indexes and selectors see documents so. See the CouchDB manual, api/document/common.
 pub fn show(alloc: Global, id: &DocId, rev: &Rev, deleted: bool, body: &Json) -> Got<Json>
-    ensures { IfOk result (λ document. view document ≡ shown_document id.now rev.now (record { deleted = deleted; body = view body.now })) }
+    ensures { IfOk result (λ document. view document ≡ document_at_revision id.now rev.now (record { deleted = deleted; body = view body.now })) }
 {
     Ok(Json::Object(show_members(alloc, id, rev, deleted, body)?))
 }
@@ -41,7 +41,7 @@ pub fn show_members(
 
 /// Copies the members of a body.
 fn members_of(alloc: Global, body: &Json) -> Got<NameMap<Json>>
-    ensures { IfOk result (λ members. members_view members.entries ≡ members_in (view body.now)) }
+    ensures { IfOk result (λ members. members_view members.entries ≡ body_members (view body.now)) }
 {
     match body.copy(alloc)? {
         Json::Object(members) => Ok(members),

@@ -19,50 +19,50 @@ use Rattle.node.specs.Effects.{IsLaterThan}
 use Rattle.node.specs.Runs.{Steps}
 use Rattle.node.specs.Step.{Serving}
 use Rattle.hub.specs.Arrival.{Arrival, fault_on, request_on}
-use Rattle.repl.specs.Passes.{Asked, Pass, to_source, to_target, done, stopped_by, asked_of}
-use Rattle.world.specs.Exchanging.{IsAskedBy, IsCarriedBy}
+use Rattle.repl.specs.Passes.{Asked, to_source, to_target, done, stopped_by, asked_of}
+use Rattle.repl.specs.Turns.{Turn}
+use Rattle.world.specs.Exchanging.{IsAsked, IsCarried, Question}
 use Rattle.world.specs.Happening.{Happening, Sight, comes, exchanges}
 use Rattle.world.specs.Keeping.{DatabasesBecomeLater, IsAt, Keeping, StaysAt}
 use Rattle.world.specs.Network.{Network, Transfer}
-use Rattle.world.specs.Playing.{HappensBy, PlaysBy}
-use Rattle.world.specs.Service.{Asker, HandlingOf, IsAnsweredBy, IsHandled, IsServiceBy, SeenReply}
+use Rattle.world.specs.Playing.{Happens, Plays}
+use Rattle.world.specs.Service.{Asker, Handling, IsAnswered, IsHandled, IsService, SeenReply}
 use Rattle.world.specs.declared.fate.Fate.{Fate}
 use Rattle.world.specs.declared.fate.Fate.TheVariants.{Answered, ReplyLost, RequestLost}
 
 abbrev Nodes : Type 0
 Nodes = List (Serving Contents)
 
-module _ (handling : HandlingOf Contents) (P : Nodes → Nodes → Type 0) (same : (a : Nodes) → P a a) (chain : (a b c : Nodes) → P a b → P b c → P a c)
+module _ (handling : Handling Contents) (P : Nodes → Nodes → Type 0) (same : (a : Nodes) → P a a) (chain : (a b c : Nodes) → P a b → P b c → P a c)
     (each : (who : Asker) (old : Nodes) (place : ℕ) (m : Message) (r : Reply) (new : Nodes) → handling who old place m r new → P old new) where
-  along_answer : (homes : List ℕ) (old new : Nodes) (a : Arrival) (t : SeenReply) → IsAnsweredBy handling homes old a t new → P old new
+  along_answer : (homes : List ℕ) (old new : Nodes) (a : Arrival) (t : SeenReply) → IsAnswered handling homes old a t new → P old new
   along_answer homes old new (request_on conn m) t p = each _ old _ m t.reply new p.1
   along_answer homes old new (fault_on conn f) t p = subst (λ (x : Nodes). P old x) (sym p.2) (same old)
 
-  along_service : (homes : List ℕ) (old new : Nodes) (xs : List Arrival) (ts : List SeenReply) → IsServiceBy handling homes old xs ts new → P old new
+  along_service : (homes : List ℕ) (old new : Nodes) (xs : List Arrival) (ts : List SeenReply) → IsService handling homes old xs ts new → P old new
   along_service homes old new [] [] p = subst (λ (x : Nodes). P old x) (sym p) (same old)
   along_service homes old new [] (t ∷ ts) p = absurd p
   along_service homes old new (x ∷ xs) [] p = absurd p
   along_service homes old new (x ∷ xs) (t ∷ ts) p = chain old p.0 new (along_answer homes old p.0 x t p.1) (along_service homes p.0 new xs ts p.2)
 
-  along_carried : (who : Asker) (fate : Fate) (old new : Nodes) (place : ℕ) (m : Message) (before : Pass) (status : ℕ) (after : Pass)
-      → IsCarriedBy (handling who) fate old place m before status new after → P old new
-  along_carried who Answered old new place m before status after p = each who old place m p.reply new p.handled
-  along_carried who ReplyLost old new place m before status after p = each who old place m p.reply new p.handled
-  along_carried who RequestLost old new place m before status after p = subst (λ (x : Nodes). P old x) (sym p.0) (same old)
+  along_carried : (fate : Fate) (old new : Nodes) (q : Question) (t : Turn) → IsCarried handling fate old q t new → P old new
+  along_carried Answered old new q t p = each _ old q.place q.message p.0 new p.1
+  along_carried ReplyLost old new q t p = each _ old q.place q.message p.0 new p.1
+  along_carried RequestLost old new q t p = subst (λ (x : Nodes). P old x) (sym p.0) (same old)
 
-  along_asked : (fate : Fate) (old new : Network Contents) (number : ℕ) (t : Transfer) (asked : Asked) (seen : List Sight) → IsAskedBy handling fate old number t asked seen new → P old.nodes new.nodes
+  along_asked : (fate : Fate) (old new : Network Contents) (number : ℕ) (t : Transfer) (asked : Asked) (seen : List Sight) → IsAsked handling fate old number t asked seen new → P old.nodes new.nodes
   along_asked fate old new number t (to_source m) seen p =
-      subst (λ (x : Network Contents). P old.nodes x.nodes) (sym p.left) (along_carried _ fate old.nodes p.nodes t.from m t.pass p.status p.after p.carried)
+      subst (λ (x : Network Contents). P old.nodes x.nodes) (sym p.left) (along_carried fate old.nodes p.nodes _ p.turn p.carried)
   along_asked fate old new number t (to_target m) seen p =
-      subst (λ (x : Network Contents). P old.nodes x.nodes) (sym p.left) (along_carried _ fate old.nodes p.nodes t.to m t.pass p.status p.after p.carried)
+      subst (λ (x : Network Contents). P old.nodes x.nodes) (sym p.left) (along_carried fate old.nodes p.nodes _ p.turn p.carried)
   along_asked fate old new number t (done s) seen p = subst (λ (x : Network Contents). P old.nodes x.nodes) (sym p.1) (same old.nodes)
   along_asked fate old new number t (stopped_by why s) seen p = subst (λ (x : Network Contents). P old.nodes x.nodes) (sym p.1) (same old.nodes)
 
-  along_event : (h : Happening) (old new : Network Contents) (seen : List Sight) → HappensBy handling old h seen new → P old.nodes new.nodes
+  along_event : (h : Happening) (old new : Network Contents) (seen : List Sight) → Happens handling old h seen new → P old.nodes new.nodes
   along_event (comes piece) old new seen p = along_service old.homes old.nodes new.nodes p.1.arrivals p.0 p.1.served
   along_event (exchanges number fate) old new seen p = along_asked fate old new number p.transfer (asked_of p.transfer.pass) seen p.asked
 
-  pub along : (hs : List Happening) (old new : Network Contents) (seen : List Sight) → PlaysBy handling old hs seen new → P old.nodes new.nodes
+  pub along : (hs : List Happening) (old new : Network Contents) (seen : List Sight) → Plays handling old hs seen new → P old.nodes new.nodes
   along [] old new seen p = subst (λ (x : Network Contents). P old.nodes x.nodes) (sym p.1) (same old.nodes)
   along (h ∷ hs) old new seen (first, others, between, here, later, order) =
       chain old.nodes between.nodes new.nodes (along_event h old between first here) (along hs between new others later)

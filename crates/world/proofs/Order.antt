@@ -2,14 +2,14 @@
 use Rattle.std.proofs.Common.{◌≡◌, ◌∙◌, ℕ, List, [], ◌∷◌, ◌++◌, map, append_assoc, append-nil, refl, sym, ap, subst}
 use Rattle.std.proofs.lemmas.List.{append_cancel_left}
 use Rattle.hub.proofs.Arrivals.{order_kept, order_one}
-use Rattle.hub.specs.Arrival.{AreNew, Arrival, Arrives, ArrivesAt, Brings, Piece, stream_of}
-use Rattle.hub.specs.Connections.{ConnectionTable}
+use Rattle.hub.specs.Arrival.{AreNew, Arrival, Arrives, ArrivesAt, Brings, BringsBehind, Piece, stream_of}
+use Rattle.hub.specs.Connections.{ConnectionTable, rest_on}
 use Rattle.repl.specs.Passes.{Asked, asked_of, to_source, to_target, done, stopped_by}
 use Rattle.world.specs.Exchanging.{IsAsked, IsExchanged}
 use Rattle.world.specs.Happening.{Happening, Sight, comes, exchanges, pieces_of}
 use Rattle.world.specs.Network.{Network, Transfer}
 use Rattle.world.specs.Playing.{IsPlayedInOrder, Plays, PlaysInOrder, all_replied}
-use Rattle.world.specs.Service.{IsService, SeenReply, StepOf}
+use Rattle.world.specs.Service.{Handling, IsService, SeenReply}
 use Rattle.world.specs.declared.fate.Fate.{Fate}
 use Rattle.world.proofs.Events.{replied_more}
 use Rattle.world.proofs.Services.{arrives_append, service_append}
@@ -56,72 +56,77 @@ brings_next start between after earlier p xs ys new first next =
     let last : all.last ≡ ys = append_cancel_left xs all.last ys (ap (λ (zs : List Arrival). zs ++ all.last) (sym same) ∙ sym all.order) in
     subst (λ (zs : List Arrival). Brings p.conn (stream_of earlier p.conn) p.bytes zs) last all.brings
 
+-- the piece alone, in a list
+pub arrives_alone : (old new : ConnectionTable) (p : Piece) (xs : List Arrival) → BringsBehind (rest_on old p.conn) old p xs new → ArrivesAt old (p ∷ []) xs new
+arrives_alone old new p xs brought = (xs, [], new, brought, (refl, refl), sym (append-nil xs))
+
 -- ---- exchanges leave connections as they are
 
-asked_connections : {S : Type 0} (step : StepOf S) (fate : Fate) (old new : Network S) (number : ℕ) (t : Transfer) (asked : Asked) (seen : List Sight)
-    → IsAsked step fate old number t asked seen new → new.connections ≡ old.connections
-asked_connections {S} step fate old new number t (to_source m) seen p = ap (λ (n : Network S). n.connections) p.left
-asked_connections {S} step fate old new number t (to_target m) seen p = ap (λ (n : Network S). n.connections) p.left
-asked_connections {S} step fate old new number t (done s) seen p = ap (λ (n : Network S). n.connections) p.1
-asked_connections {S} step fate old new number t (stopped_by why s) seen p = ap (λ (n : Network S). n.connections) p.1
+asked_connections : {S : Type 0} (handling : Handling S) (fate : Fate) (old new : Network S) (number : ℕ) (t : Transfer) (asked : Asked) (seen : List Sight)
+    → IsAsked handling fate old number t asked seen new → new.connections ≡ old.connections
+asked_connections {S} handling fate old new number t (to_source m) seen p = ap (λ (n : Network S). n.connections) p.left
+asked_connections {S} handling fate old new number t (to_target m) seen p = ap (λ (n : Network S). n.connections) p.left
+asked_connections {S} handling fate old new number t (done s) seen p = ap (λ (n : Network S). n.connections) p.1
+asked_connections {S} handling fate old new number t (stopped_by why s) seen p = ap (λ (n : Network S). n.connections) p.1
 
-exchanged_connections : {S : Type 0} (step : StepOf S) (fate : Fate) (old new : Network S) (number : ℕ) (seen : List Sight) → IsExchanged step fate old number seen new
+exchanged_connections : {S : Type 0} (handling : Handling S) (fate : Fate) (old new : Network S) (number : ℕ) (seen : List Sight) → IsExchanged handling fate old number seen new
     → new.connections ≡ old.connections
-exchanged_connections step fate old new number seen p = asked_connections step fate old new number p.transfer (asked_of p.transfer.pass) seen p.asked
+exchanged_connections handling fate old new number seen p = asked_connections handling fate old new number p.transfer (asked_of p.transfer.pass) seen p.asked
 
 -- ---- from rests to streams
 
 -- from connections on which nothing had come before these earlier pieces
-plays_behind : {S : Type 0} (step : StepOf S) (start : ConnectionTable) (earlier : List Piece) (xs : List Arrival) (old new : Network S) (hs : List Happening) (seen : List Sight)
-    → AreNew start (earlier ++ pieces_of hs) → ArrivesAt start earlier xs old.connections → Plays step old hs seen new → PlaysInOrder step earlier old hs seen new
-plays_behind step start earlier xs old new [] seen fresh at p = p
-plays_behind step start earlier xs old new (comes piece ∷ hs) seen fresh at (first, others, between, (told, played, same), later, order) =
+plays_behind : {S : Type 0} (handling : Handling S) (start : ConnectionTable) (earlier : List Piece) (xs : List Arrival) (old new : Network S) (hs : List Happening) (seen : List Sight)
+    → AreNew start (earlier ++ pieces_of hs) → ArrivesAt start earlier xs old.connections → Plays handling old hs seen new → PlaysInOrder handling earlier old hs seen new
+plays_behind handling start earlier xs old new [] seen fresh at p = p
+plays_behind handling start earlier xs old new (comes piece ∷ hs) seen fresh at (first, others, between, (told, played, same), later, order) =
     let fresh' = subst (AreNew start) (sym (append_assoc earlier (piece ∷ []) (pieces_of hs))) fresh in
+    let alone = arrives_alone old.connections between.connections piece played.arrivals played.brought in
     let brought = brings_next start old.connections between.connections earlier piece xs played.arrivals
-    (new_first start (earlier ++ piece ∷ []) (pieces_of hs) fresh') at played.arrived in
-    let at' = arrives_append start old.connections between.connections earlier (piece ∷ []) xs played.arrivals at played.arrived in (
+    (new_first start (earlier ++ piece ∷ []) (pieces_of hs) fresh') at alone in
+    let at' = arrives_append start old.connections between.connections earlier (piece ∷ []) xs played.arrivals at alone in (
       told,
       others,
       between,
       record { arrivals = played.arrivals; brought = brought; served = played.served; homes = played.homes; transfers = played.transfers },
-      plays_behind step start (earlier ++ piece ∷ []) (xs ++ played.arrivals) between new hs others fresh' at' later,
+      plays_behind handling start (earlier ++ piece ∷ []) (xs ++ played.arrivals) between new hs others fresh' at' later,
       order ∙ ap (λ (ss : List Sight). ss ++ others) same,
     )
-plays_behind step start earlier xs old new (exchanges number fate ∷ hs) seen fresh at (first, others, between, here, later, order) =
-    let at' = subst (ArrivesAt start earlier xs) (sym (exchanged_connections step fate old between number first here)) at in
-    (first, others, between, here, plays_behind step start earlier xs between new hs others fresh at' later, order)
+plays_behind handling start earlier xs old new (exchanges number fate ∷ hs) seen fresh at (first, others, between, here, later, order) =
+    let at' = subst (ArrivesAt start earlier xs) (sym (exchanged_connections handling fate old between number first here)) at in
+    (first, others, between, here, plays_behind handling start earlier xs between new hs others fresh at' later, order)
 
-pub plays_in_order : {S : Type 0} (step : StepOf S) (old new : Network S) (hs : List Happening) (seen : List Sight) → AreNew old.connections (pieces_of hs) → Plays step old hs seen new
-    → PlaysInOrder step [] old hs seen new
-plays_in_order step old new hs seen fresh p = plays_behind step old.connections [] [] old new hs seen fresh (refl, refl) p
+pub plays_in_order : {S : Type 0} (handling : Handling S) (old new : Network S) (hs : List Happening) (seen : List Sight) → AreNew old.connections (pieces_of hs) → Plays handling old hs seen new
+    → PlaysInOrder handling [] old hs seen new
+plays_in_order handling old new hs seen fresh p = plays_behind handling old.connections [] [] old new hs seen fresh (refl, refl) p
 
 -- ---- pieces alone
 
 -- the arrivals of pieces, and their replies
-record AreServed {S : Type 0} (step : StepOf S) (earlier : List Piece) (old : Network S) (pieces : List Piece) (sights : List Sight) (new : Network S) : Type 0 where
+record AreServed {S : Type 0} (handling : Handling S) (earlier : List Piece) (old : Network S) (pieces : List Piece) (sights : List Sight) (new : Network S) : Type 0 where
   told : List SeenReply
   seen : sights ≡ all_replied told
   arrivals : List Arrival
   arrive : Arrives earlier pieces arrivals
-  served : IsService step old.homes old.nodes arrivals told new.nodes
+  served : IsService handling old.homes old.nodes arrivals told new.nodes
 
-served_behind : {S : Type 0} (step : StepOf S) (earlier : List Piece) (old new : Network S) (pieces : List Piece) (seen : List Sight) → PlaysInOrder step earlier old (map comes pieces) seen new
-    → AreServed step earlier old pieces seen new
-served_behind {S} step earlier old new [] seen p =
+served_behind : {S : Type 0} (handling : Handling S) (earlier : List Piece) (old new : Network S) (pieces : List Piece) (seen : List Sight) → PlaysInOrder handling earlier old (map comes pieces) seen new
+    → AreServed handling earlier old pieces seen new
+served_behind {S} handling earlier old new [] seen p =
     record { told = []; seen = p.0; arrivals = []; arrive = refl; served = ap (λ (n : Network S). n.nodes) p.1 }
-served_behind {S} step earlier old new (p ∷ ps) seen (told, others, between, here, later, order) =
-    let rest = served_behind step (earlier ++ p ∷ []) between new ps others later in
+served_behind {S} handling earlier old new (p ∷ ps) seen (told, others, between, here, later, order) =
+    let rest = served_behind handling (earlier ++ p ∷ []) between new ps others later in
     record {
       told = told ++ rest.told;
       seen = order ∙ ap (λ (ss : List Sight). all_replied told ++ ss) rest.seen ∙ sym (replied_more told rest.told);
       arrivals = here.arrivals ++ rest.arrivals;
       arrive = (here.arrivals, rest.arrivals, here.brought, rest.arrive, refl);
-      served = service_append step old.homes old.nodes between.nodes new.nodes here.arrivals rest.arrivals told rest.told here.served
-          (subst (λ (h : List ℕ). IsService step h between.nodes rest.arrivals rest.told new.nodes) here.homes rest.served);
+      served = service_append handling old.homes old.nodes between.nodes new.nodes here.arrivals rest.arrivals told rest.told here.served
+          (subst (λ (h : List ℕ). IsService handling h between.nodes rest.arrivals rest.told new.nodes) here.homes rest.served);
     }
 
-pub pieces_in_order : {S : Type 0} (step : StepOf S) (old new : Network S) (pieces : List Piece) (seen : List Sight) → PlaysInOrder step [] old (map comes pieces) seen new
-    → (told : List SeenReply) × (seen ≡ all_replied told) × IsPlayedInOrder step old.homes old.nodes pieces told new.nodes
-pieces_in_order step old new pieces seen p =
-    let s = served_behind step [] old new pieces seen p in
+pub pieces_in_order : {S : Type 0} (handling : Handling S) (old new : Network S) (pieces : List Piece) (seen : List Sight) → PlaysInOrder handling [] old (map comes pieces) seen new
+    → (told : List SeenReply) × (seen ≡ all_replied told) × IsPlayedInOrder handling old.homes old.nodes pieces told new.nodes
+pieces_in_order handling old new pieces seen p =
+    let s = served_behind handling [] old new pieces seen p in
     (s.told, s.seen, record { arrivals = s.arrivals; arrive = s.arrive; served = s.served })

@@ -9,8 +9,8 @@ use Rattle.node.specs.Runs.{Steps}
 use Rattle.node.specs.Step.{Serving}
 use Rattle.world.specs.Happening.{Happening, Sight}
 use Rattle.world.specs.Network.{Network, Transfer}
-use Rattle.world.specs.Playing.{PlaysBy}
-use Rattle.world.specs.Service.{HandlingOf, IsHandled}
+use Rattle.world.specs.Playing.{Plays}
+use Rattle.world.specs.Service.{Handling, IsHandled}
 
 -- the database of this name at the node of this number
 pub record IsAt (nodes : List (Serving Contents)) (place : ℕ) (name : List ℕ) (db : Database) : Type 0 where
@@ -23,14 +23,14 @@ abbrev pub StaysAt : List (Serving Contents) → List (Serving Contents) → ℕ
 StaysAt old new place name = (db : Database) → IsAt old place name db → (now : Database) × IsAt new place name now
 
 -- whoever asks, a request is handled, and both databases of the pass stay
-abbrev pub Keeping : Transfer → HandlingOf Contents
+abbrev pub Keeping : Transfer → Handling Contents
 Keeping t who old place m reply new =
     IsHandled Steps old place m reply new × StaysAt old new t.from t.pass.configuration.source_db × StaysAt old new t.to t.pass.configuration.target_db
 
 -- through such a run the database of either side becomes a later one
 abbrev pub DatabasesBecomeLater : Type 0
 DatabasesBecomeLater =
-    (t : Transfer) (hs : List Happening) (seen : List Sight) (old new : Network Contents) → PlaysBy (Keeping t) old hs seen new
+    (t : Transfer) (hs : List Happening) (seen : List Sight) (old new : Network Contents) → Plays (Keeping t) old hs seen new
     → ((db : Database) → IsAt old.nodes t.from t.pass.configuration.source_db db
     → (now : Database) × IsAt new.nodes t.from t.pass.configuration.source_db now × IsLater db now)
     × ((db : Database) → IsAt old.nodes t.to t.pass.configuration.target_db db

@@ -6,10 +6,10 @@ use Rattle.auth.specs.Callers.{Configuration}
 use Rattle.couch_http.specs.Message.{Message}
 use Rattle.couch_http.specs.Reply.{Reply}
 use Rattle.node.specs.Step.{Serving}
-use Rattle.node.specs.Runs.{IsServed}
+use Rattle.node.specs.Runs.{IsServedReply}
 use Rattle.hub.specs.Arrival.{Arrival, fault_on, request_on}
 use Rattle.hub.specs.Endings.{refusal_of}
-use Rattle.world.specs.Network.{home_of}
+use Rattle.world.specs.Network.{node_of_connection}
 use Rattle.world.specs.declared.fate.Fate.{Fate}
 
 -- a reply on a connection
@@ -26,13 +26,9 @@ pub data Asker : Type 0 where
   on_connection : ℕ → Asker
   by_pass : ℕ → Fate → Asker
 
--- what may come of a request to the node of a number: its reply, and the nodes after it
+-- what may come of a request: by who asks, the nodes before it, the number of the node that is asked, its reply, and the nodes after it
 abbrev pub Handling : Type 0 → Type 1
-Handling S = List (Serving S) → ℕ → Message → Reply → List (Serving S) → Type 0
-
--- the same by who asks
-abbrev pub HandlingOf : Type 0 → Type 1
-HandlingOf S = Asker → Handling S
+Handling S = Asker → List (Serving S) → ℕ → Message → Reply → List (Serving S) → Type 0
 
 -- the node of this number replies to a request, and the others stay as they are
 pub record IsHandled {S : Type 0} (step : StepOf S) (old : List (Serving S)) (place : ℕ) (m : Message) (reply : Reply) (new : List (Serving S)) : Type 0 where
@@ -42,27 +38,24 @@ pub record IsHandled {S : Type 0} (step : StepOf S) (old : List (Serving S)) (pl
   pub handled : step node.configuration node.store m reply after
   pub left : new ≡ slice_set old place (record node { store = after })
 
--- a request is handled by the node of its connection; a fault of a stream has its fixed reply, and changes nothing
-abbrev pub IsAnsweredBy : {S : Type 0} → HandlingOf S → List ℕ → List (Serving S) → Arrival → SeenReply → List (Serving S) → Type 0
-IsAnsweredBy handling homes old (request_on conn m) told new = (told.conn ≡ conn) × handling (on_connection conn) old (home_of homes conn) m told.reply new
-IsAnsweredBy handling homes old (fault_on conn fault) told new = (told.conn ≡ conn) × (refusal_of fault ≡ told.reply ∷ []) × (new ≡ old)
+-- whoever asks, the node that is asked takes a step of this kind
+abbrev pub alike : {S : Type 0} → StepOf S → Handling S
+alike step who = IsHandled step
 
--- each arrival has its reply, from the nodes as the one before left them
-abbrev pub IsServiceBy : {S : Type 0} → HandlingOf S → List ℕ → List (Serving S) → List Arrival → List SeenReply → List (Serving S) → Type 0
-IsServiceBy handling homes old [] [] new = new ≡ old
-IsServiceBy handling homes old [] (t ∷ ts) new = ⊥
-IsServiceBy handling homes old (a ∷ ars) [] new = ⊥
-IsServiceBy {S} handling homes old (a ∷ ars) (t ∷ ts) new = (between : List (Serving S)) × IsAnsweredBy handling homes old a t between × IsServiceBy handling homes between ars ts new
+module _ {S : Type 0} (handling : Handling S) where
+  -- a request is handled by the node of its connection; a fault of a stream has its fixed reply, and changes nothing
+  abbrev pub IsAnswered : List ℕ → List (Serving S) → Arrival → SeenReply → List (Serving S) → Type 0
+  IsAnswered homes old (request_on conn m) told new = (told.conn ≡ conn) × handling (on_connection conn) old (node_of_connection homes conn) m told.reply new
+  IsAnswered homes old (fault_on conn fault) told new = (told.conn ≡ conn) × (refusal_of fault ≡ told.reply ∷ []) × (new ≡ old)
 
--- the same where each node takes steps of this kind, whoever asks
-abbrev pub IsAnswered : {S : Type 0} → StepOf S → List ℕ → List (Serving S) → Arrival → SeenReply → List (Serving S) → Type 0
-IsAnswered step homes old a told new = IsAnsweredBy (λ who. IsHandled step) homes old a told new
-
--- arrivals one after the other, which their nodes handle by this step
-abbrev pub IsService : {S : Type 0} → StepOf S → List ℕ → List (Serving S) → List Arrival → List SeenReply → List (Serving S) → Type 0
-IsService step homes old ars seen new = IsServiceBy (λ who. IsHandled step) homes old ars seen new
+  -- each arrival has its reply, from the nodes as the one before left them
+  abbrev pub IsService : List ℕ → List (Serving S) → List Arrival → List SeenReply → List (Serving S) → Type 0
+  IsService homes old [] [] new = new ≡ old
+  IsService homes old [] (t ∷ ts) new = ⊥
+  IsService homes old (a ∷ ars) [] new = ⊥
+  IsService homes old (a ∷ ars) (t ∷ ts) new = (between : List (Serving S)) × IsAnswered homes old a t between × IsService homes between ars ts new
 
 -- no reply stands for a fault of a store or for want of memory
 abbrev pub AreAllServed : List SeenReply → Type 0
 AreAllServed [] = Unit {0}
-AreAllServed (t ∷ ts) = IsServed t.reply × AreAllServed ts
+AreAllServed (t ∷ ts) = IsServedReply t.reply × AreAllServed ts

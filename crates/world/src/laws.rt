@@ -3,6 +3,7 @@
 ghost use Rattle.hub.specs.Answering.{StoreSteps};
 ghost use Rattle.node.specs.Runs.{Steps};
 ghost use Rattle.world.specs.Keeping.{DatabasesBecomeLater};
+ghost use Rattle.world.specs.Service.{alike};
 ghost use Rattle.world.specs.Laws.{CuttingDoesNotMatter, PiecesAreServedInOrder, PlaysAreChained};
 
 use store::Store;
@@ -21,8 +22,8 @@ pub fn pieces_are_served_in_order()
 /// Two lists of events that are played one after the other are played as one list: over any store, and over
 /// databases alone.
 pub fn plays_are_chained<S: Store>()
-    ensures stores { PlaysAreChained (StoreSteps S.Store) }
-    ensures databases { PlaysAreChained Steps }
+    ensures stores { PlaysAreChained (alike (StoreSteps S.Store)) }
+    ensures databases { PlaysAreChained (alike Steps) }
 {}
 
 /// Through a run that keeps both databases of a pass each of them becomes a later one.

@@ -3,22 +3,23 @@ use Rattle.std.proofs.Common.{◌≡◌, ◌==◌, ℕ, Bool, true, false, cond,
 use Rattle.couch_json.specs.Value.{Value}
 use Rattle.tree.specs.Revision.{Revision, greatest_number}
 use Rattle.tree.specs.NextRevision.{next_revision, number_before}
-use Rattle.tree.specs.Write.{Write, IsLawful as AreWritten}
-use Rattle.tree.specs.History.{HistoryContent, content_of, is_known, placement, winner}
+use Rattle.tree.specs.Write.{Write, AreLawfulWrites as AreWritten}
+use Rattle.tree.specs.History.{HistoryContent, ancestors_of_parent, content_of, is_known, placement, winner}
 use Rattle.tree.specs.declared.placement.Placed.{Placed}
 use Rattle.tree.specs.declared.placement.Placed.TheVariants.{Added, Known}
 use Rattle.tree.specs.declared.placement.TreeFault.{TreeFault}
 use Rattle.store.specs.Contents.{AreAcceptable, Contents, IsAcceptable}
-use Rattle.store.specs.Lawful.{AreLawful, IsLawful}
+use Rattle.store.specs.Lawful.{AreLawful, IsLawfulDatabase}
 use Rattle.store.specs.Database.{Database, DocumentWrite, history_at, with_one}
 use Rattle.store.proofs.Contents.{history_at-with_one}
 use Rattle.store.proofs.Lawfuls.{lawful_by_one, writes_behind}
-use Rattle.write.specs.Admission.{admission, edit_outcome, edit_path, named_revision, replication, revision_after, with_named_revision}
-use Rattle.write.specs.Bulk.{DocumentOutcome, after, as_outcome, document_outcome, outcome_by_id, outcome_in, outcomes, put_before, writes_in}
+use Rattle.write.specs.Admission.{admission, edit_outcome, given, named_revision, replication, revision_after, with_named_revision}
+use Rattle.write.specs.Bulk.{DocumentOutcome, after, as_outcome, document_outcome, outcome_in, outcomes, put_before, writes_in}
 use Rattle.write.specs.Document.{id_in, sent_in}
 use Rattle.write.specs.IndexWrites.{index_admission, index_document}
 use Rattle.write.specs.Terms.{Terms}
-use Rattle.write.specs.declared.document.Sent.{Sent}
+use Rattle.write.specs.declared.document.ParsedDocument.{ParsedDocument}
+use Rattle.write.specs.declared.fault.WriteFault.TheVariants.{BadDocument}
 use Rattle.store.specs.Lawful.{IsBody}
 use Rattle.write.proofs.Bodies.{sent_in-Some}
 use Rattle.write.proofs.Fitting.{edit_placed}
@@ -42,26 +43,26 @@ pub record IsMade (h : HistoryContent) : Type 0 where
   pub lawful : AreWritten writes
   pub is : h ≡ content_of writes
 
-pub made_at : (db : Database) (id : List ℕ) → IsLawful db → IsMade (history_at db id)
+pub made_at : (db : Database) (id : List ℕ) → IsLawfulDatabase db → IsMade (history_at db id)
 made_at db id lawful = let past = writes_behind db id lawful in record { writes = past.0; lawful = past.1; is = past.2 }
 
 -- ---- edits
 
-next_of : (sent : Sent) (parent : Option Revision) (r : Revision) → revision_after sent parent ≡ Some r → r ≡ next_revision parent sent.deleted sent.body
+next_of : (sent : ParsedDocument) (parent : Option Revision) (r : Revision) → revision_after sent parent ≡ Some r → r ≡ next_revision parent sent.deleted sent.body
 next_of sent parent r e = by (number_before parent == greatest_number) e
   where
     by : (last : Bool) → cond last None (Some (next_revision parent sent.deleted sent.body)) ≡ Some r → r ≡ next_revision parent sent.deleted sent.body
     by true k = absurd cc
     by false k = cc
 
-is_same : (s t : Sent) → Some s ≡ Some t → t ≡ s
+is_same : (s t : ParsedDocument) → Some s ≡ Some t → t ≡ s
 is_same s t e = cc
 
-renamed_body : (names : Option (Option Revision)) (sent s : Sent) → option_map (λ rev. record sent { rev = rev }) names ≡ Some s → s.body ≡ sent.body
+renamed_body : (names : Option (Option Revision)) (sent s : ParsedDocument) → option_map (λ rev. record sent { rev = rev }) names ≡ Some s → s.body ≡ sent.body
 renamed_body None sent s e = absurd cc
-renamed_body (Some rev) sent s e = ap (λ (t : Sent). t.body) (is_same (record sent { rev = rev }) s e)
+renamed_body (Some rev) sent s e = ap (λ (t : ParsedDocument). t.body) (is_same (record sent { rev = rev }) s e)
 
-edit_body : (query : Option Revision) (sent : Option Sent) (s : Sent) → ((t : Sent) → sent ≡ Some t → IsBody t.body)
+edit_body : (query : Option Revision) (sent : Option ParsedDocument) (s : ParsedDocument) → ((t : ParsedDocument) → sent ≡ Some t → IsBody t.body)
     → option_and_then (λ t. with_named_revision query t) sent ≡ Some s → IsBody s.body
 edit_body query None s are_bodies e = absurd cc
 edit_body query (Some t) s are_bodies e = rw (renamed_body (named_revision query t.rev) t s e) (are_bodies t refl)
@@ -69,8 +70,8 @@ edit_body query (Some t) s are_bodies e = rw (renamed_body (named_revision query
 edit_fits : (terms : Terms) (id : List ℕ) (h : HistoryContent) (query : Option Revision) (document : Value) (v : DocumentWrite) → IsMade h → IsEdit terms id h query document v → Fits id h v
 edit_fits terms id h query document v made k =
     let next : k.rev ≡ next_revision k.parent k.sent.deleted k.sent.body = next_of k.sent k.parent k.rev k.makes in
-    let placed : placement h (edit_path h k.parent k.rev) ≡ Ok Added =
-    ap (λ r. placement h (edit_path h k.parent r)) next
+    let placed : placement h (k.rev ∷ ancestors_of_parent h k.parent) ≡ Ok Added =
+    ap (λ r. placement h (r ∷ ancestors_of_parent h k.parent)) next
     ∙ edit_placed made.writes h k.sent.rev k.parent k.sent.deleted k.sent.body made.lawful made.is k.follows (ap (is_known h) (sym next) ∙ k.unknown) in
     subst (Fits id h) (sym k.is)
     (record { named = refl; placed = placed; body = edit_body query (sent_in id document) k.sent (sent_in-Some id document) k.says })
@@ -93,7 +94,7 @@ acceptable : (db : Database) (id : List ℕ) (w : DocumentWrite) → Fits id (hi
 acceptable db id w f = record { placed = ap (λ k. placement (history_at db k) w.write.path) f.named ∙ f.placed; body = f.body.object; shallow = f.body.shallow }
 
 pub edit_acceptable : (terms : Terms) (db : Database) (id : List ℕ) (query : Option Revision) (document : Value) (w : DocumentWrite)
-    → IsLawful db → admission terms db id query document ≡ Ok w → IsAcceptable db w
+    → IsLawfulDatabase db → admission terms db id query document ≡ Ok w → IsAcceptable db w
 edit_acceptable terms db id query document w lawful e =
     acceptable db id w (edit_fits terms id (history_at db id) query document w (made_at db id lawful) (edit_accepted terms id (history_at db id) query document w e))
 
@@ -102,7 +103,7 @@ replicated_acceptable terms db id document w e =
     acceptable db id w (replicated_fits terms id (history_at db id) document w (replicated_accepted terms id (history_at db id) document (Some w) e))
 
 by_id-acceptable : (terms : Terms) (new_edits : Bool) (db : Database) (document : Value) (id : Option (List ℕ)) (w : DocumentWrite)
-    → IsLawful db → outcome_by_id terms new_edits (history_at db) document id ≡ Ok (Some w) → IsAcceptable db w
+    → IsLawfulDatabase db → given BadDocument id (λ k. document_outcome terms new_edits k (history_at db k) document) ≡ Ok (Some w) → IsAcceptable db w
 by_id-acceptable terms new_edits db document None w lawful e = absurd cc
 by_id-acceptable terms new_edits db document (Some id) w lawful e =
     acceptable db id w (judged_fits terms new_edits id (history_at db id) document w (made_at db id lawful) e)
@@ -119,13 +120,13 @@ after_is db (Ok None) = refl
 after_is db (Err fault) = refl
 
 -- what one outcome brings may be appended, and so may what follows it
-before_acceptable : (db : Database) (o : DocumentOutcome) (ws : List DocumentWrite) → IsLawful db → ((w : DocumentWrite) → o ≡ Ok (Some w) → IsAcceptable db w)
-    → (IsLawful (db_after db o) → AreAcceptable (db_after db o) ws) → AreAcceptable db (put_before o ws)
+before_acceptable : (db : Database) (o : DocumentOutcome) (ws : List DocumentWrite) → IsLawfulDatabase db → ((w : DocumentWrite) → o ≡ Ok (Some w) → IsAcceptable db w)
+    → (IsLawfulDatabase (db_after db o) → AreAcceptable (db_after db o) ws) → AreAcceptable db (put_before o ws)
 before_acceptable db (Ok (Some w)) ws lawful one rest = (one w refl, rest (lawful_by_one db w lawful (one w refl)))
 before_acceptable db (Ok None) ws lawful one rest = rest lawful
 before_acceptable db (Err fault) ws lawful one rest = rest lawful
 
-pub all_acceptable : (terms : Terms) (new_edits : Bool) (db : Database) (documents : List Value) → IsLawful db → AreAcceptable db (writes_in (outcomes terms new_edits (history_at db) documents))
+pub all_acceptable : (terms : Terms) (new_edits : Bool) (db : Database) (documents : List Value) → IsLawfulDatabase db → AreAcceptable db (writes_in (outcomes terms new_edits (history_at db) documents))
 all_acceptable terms new_edits db [] lawful = tt
 all_acceptable terms new_edits db (v ∷ vs) lawful =
     let o : DocumentOutcome = outcome_in terms new_edits (history_at db) v in
@@ -139,7 +140,7 @@ alone_acceptable db (Ok (Some w)) one = (one w refl, tt)
 alone_acceptable db (Ok None) one = tt
 alone_acceptable db (Err fault) one = tt
 
-pub edit_alone_acceptable : (terms : Terms) (db : Database) (id : List ℕ) (query : Option Revision) (document : Value) → IsLawful db
+pub edit_alone_acceptable : (terms : Terms) (db : Database) (id : List ℕ) (query : Option Revision) (document : Value) → IsLawfulDatabase db
     → AreAcceptable db (writes_in (as_outcome (admission terms db id query document) ∷ []))
 edit_alone_acceptable terms db id query document lawful =
     alone_acceptable db (as_outcome (admission terms db id query document)) (λ w e. edit_acceptable terms db id query document w lawful (as_outcome-Some (admission terms db id query document) w e))
@@ -147,7 +148,7 @@ edit_alone_acceptable terms db id query document lawful =
 pub replicated_alone_acceptable : (terms : Terms) (db : Database) (id : List ℕ) (document : Value) → AreAcceptable db (writes_in (replication terms db id document ∷ []))
 replicated_alone_acceptable terms db id document = alone_acceptable db (replication terms db id document) (λ w e. replicated_acceptable terms db id document w e)
 
-pub index_alone_acceptable : (terms : Terms) (db : Database) (id : List ℕ) (name : List ℕ) (fields : List (List ℕ)) → IsLawful db
+pub index_alone_acceptable : (terms : Terms) (db : Database) (id : List ℕ) (name : List ℕ) (fields : List (List ℕ)) → IsLawfulDatabase db
     → AreAcceptable db (writes_in (index_admission terms db id name fields ∷ []))
 index_alone_acceptable terms db id name fields lawful =
     alone_acceptable db (index_admission terms db id name fields)
@@ -179,5 +180,5 @@ sure_all db (w ∷ ws) known = (sure_acceptable db w (∥∥₁_map known (λ al
 
 -- what lawful databases accept may be appended
 pub acceptable_in : (contents : Contents) (name : List ℕ) (db : Database) (ws : List DocumentWrite) → ∥ AreLawful contents ∥₁ → get contents name ≡ Some db
-    → (IsLawful db → AreAcceptable db ws) → AreAcceptable db ws
+    → (IsLawfulDatabase db → AreAcceptable db ws) → AreAcceptable db ws
 acceptable_in contents name db ws lawful there follows = sure_all db ws (∥∥₁_map lawful (λ are. follows (are name db there)))

@@ -11,7 +11,7 @@ use Rattle.couch_json.specs.Value.{Value, null, truth, whole, text, array, objec
 use Rattle.couch_json.specs.View.{view, members_view}
 use Rattle.couch_json.specs.declared.value.Json.{Json}
 use Rattle.store.specs.Contents.{max_body_depth}
-use Rattle.write.specs.Document.{are_allowed, body_if, body_of, fits_id, is_allowed, is_body_for, is_special, mark_in, revision_in, sent_in, sent_with, without_member, without_name, without_special}
+use Rattle.write.specs.Document.{are_allowed, body_if, remaining_body, fits_id, is_allowed, is_body_for, is_special, mark_in, given_revision, sent_in, sent_with, without_member, without_name, without_special}
 
 abbrev pub Entry : Type 0
 Entry = String Global × Json
@@ -51,7 +51,7 @@ same_at : (name : List ℕ) → ((v : Value) (o : Option Value) → match_orderi
     → (ms : Members) → member_at name (without_name (codes "_revisions") ms) ≡ member_at name ms
 same_at name other = passes_over (member_at name) (λ k v o. match_ordering (slice_cmp nat_cmp name k) o (Some v) o) (λ k v ms. refl) other
 
-same_body : (ms : Members) → body_of (without_name (codes "_revisions") ms) ≡ body_of ms
+same_body : (ms : Members) → remaining_body (without_name (codes "_revisions") ms) ≡ remaining_body ms
 same_body ms =
     let allowed = passes_over are_allowed (λ name v b. is_allowed name && b) (λ name v rest. refl) (λ v b. refl) ms in
     let plain = passes_over without_special (λ name v rest. cond (is_special name) rest (member name v rest)) (λ name v rest. refl) (λ v rest. refl) ms in
@@ -69,4 +69,4 @@ same_sent id (object ms) =
     let mark = same_at (codes "_deleted") (λ v o. refl) ms in
     let body = same_body ms in
     (λ i. option_and_then (λ words. option_map (λ b. sent_with words b) (option_and_then (λ b. body_if (is_body_for id b) b) (body i)))
-    (cond (fits_id id (own i)) (option_and_then (λ r. option_map (λ deleted. (r, deleted)) (mark_in (mark i))) (revision_in (rev i))) None))
+    (cond (fits_id id (own i)) (option_and_then (λ r. option_map (λ deleted. (r, deleted)) (mark_in (mark i))) (given_revision (rev i))) None))

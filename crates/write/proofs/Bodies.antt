@@ -9,7 +9,7 @@ use Rattle.store.specs.Contents.{max_body_depth}
 use Rattle.store.specs.Lawful.{IsBody}
 use Rattle.tree.specs.Revision.{Revision}
 use Rattle.write.specs.Document.{are_allowed, body_for, body_if, body_in, is_body_for, is_special, sent_in, sent_with, without_special, words_in}
-use Rattle.write.specs.declared.document.Sent.{Sent}
+use Rattle.write.specs.declared.document.ParsedDocument.{ParsedDocument}
 
 abbrev pub Entry : Type 0
 Entry = String Global × Json
@@ -48,15 +48,15 @@ body_in-Some (whole n) body h = absurd cc
 body_in-Some (text s) body h = absurd cc
 body_in-Some (array vs) body h = absurd cc
 
-is_same : (s t : Sent) → Some s ≡ Some t → t ≡ s
+is_same : (s t : ParsedDocument) → Some s ≡ Some t → t ≡ s
 is_same s t e = cc
 
-with_body : (words : Option Revision × Bool) (body : Option Value) (s : Sent) → ((b : Value) → body ≡ Some b → IsBody b)
+with_body : (words : Option Revision × Bool) (body : Option Value) (s : ParsedDocument) → ((b : Value) → body ≡ Some b → IsBody b)
     → option_map (λ b. sent_with words b) body ≡ Some s → IsBody s.body
 with_body words None s are_bodies h = absurd cc
-with_body words (Some b) s are_bodies h = rw (ap (λ (t : Sent). t.body) (is_same (sent_with words b) s h)) (are_bodies b refl)
+with_body words (Some b) s are_bodies h = rw (ap (λ (t : ParsedDocument). t.body) (is_same (sent_with words b) s h)) (are_bodies b refl)
 
-with_words : (words : Option (Option Revision × Bool)) (body : Option Value) (s : Sent) → ((b : Value) → body ≡ Some b → IsBody b)
+with_words : (words : Option (Option Revision × Bool)) (body : Option Value) (s : ParsedDocument) → ((b : Value) → body ≡ Some b → IsBody b)
     → option_and_then (λ w. option_map (λ b. sent_with w b) body) words ≡ Some s → IsBody s.body
 with_words None body s are_bodies h = absurd cc
 with_words (Some w) body s are_bodies h = with_body w body s are_bodies h
@@ -66,6 +66,6 @@ suited : (id : List ℕ) (plain : Option Value) (body : Value) → ((b : Value) 
 suited id None body are_bodies h = absurd cc
 suited id (Some b) body are_bodies h = subst IsBody (sym (taken (is_body_for id b) b body h).0) (are_bodies b refl)
 
-pub sent_in-Some : (id : List ℕ) (document : Value) (s : Sent) → sent_in id document ≡ Some s → IsBody s.body
+pub sent_in-Some : (id : List ℕ) (document : Value) (s : ParsedDocument) → sent_in id document ≡ Some s → IsBody s.body
 sent_in-Some id document s h =
     with_words (words_in id document) (body_for id document) s (λ b e. suited id (body_in document) b (body_in-Some document) e) h

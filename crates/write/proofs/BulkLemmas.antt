@@ -9,17 +9,18 @@ use Rattle.std.specs.Prelude.{bytes_eq, codes, is_some}
 use Rattle.tree.specs.History.{HistoryContent}
 use Rattle.tree.specs.History.{with_write}
 use Rattle.couch_json.specs.Value.{Value}
-use Rattle.store.specs.Database.{DocumentWrite, is_of}
+use Rattle.store.specs.Database.{DocumentWrite, is_write_of}
 use Rattle.store.specs.Writing.{addition_of, written_in}
 use Rattle.store.specs.declared.write.Write.{Write}
-use Rattle.write.specs.Admission.{history_with}
-use Rattle.write.specs.Bulk.{DocumentOutcome, Histories, after, document_outcome, outcome_by_id, with_write_in}
+use Rattle.write.specs.Admission.{given, history_with}
+use Rattle.write.specs.Bulk.{DocumentOutcome, Histories, after, document_outcome, with_write_in}
 use Rattle.write.specs.inner.Drafts.{request_outcome}
 use Rattle.write.specs.BulkResults.{AgreeAt, brought, held_or, seen_in, with_history}
-use Rattle.write.specs.Document.{id_if, id_in, is_bulk_id, is_same_text, member_text}
+use Rattle.write.specs.Document.{id_in_bulk, id_in, is_bulk_id, is_same_text, member_text}
 use Rattle.write.specs.inner.Repeats.{IsKept, is_named, is_named_if_any}
 use Rattle.write.specs.Terms.{Terms}
 use Rattle.write.specs.declared.draft.Request.{Request}
+use Rattle.write.specs.declared.fault.WriteFault.TheVariants.{BadDocument}
 use Rattle.write.proofs.Names.{request-named}
 
 or_cond : (b : Bool) (stored h : HistoryContent) (o : Option HistoryContent) → held_or stored (cond b (Some h) o) ≡ cond b h (held_or stored o)
@@ -156,19 +157,19 @@ agree_at h g (Some id) same = same id refl
 
 -- the same becomes of a document by histories that agree at its id
 pub outcome_agrees : (terms : Terms) (new_edits : Bool) (h g : Histories) (document : Value) (i : Option (List ℕ)) → AgreeAt i h g
-    → outcome_by_id terms new_edits h document i ≡ outcome_by_id terms new_edits g document i
+    → given BadDocument i (λ id. document_outcome terms new_edits id (h id) document) ≡ given BadDocument i (λ id. document_outcome terms new_edits id (g id) document)
 outcome_agrees terms new_edits h g document None same = refl
 outcome_agrees terms new_edits h g document (Some id) same = ap (λ (x : HistoryContent). document_outcome terms new_edits id x document) same
 
 pub after_agrees : (h g : Histories) (o : DocumentOutcome) (k : List ℕ) → h k ≡ g k → after h o k ≡ after g o k
-after_agrees h g (Ok (Some w)) k same = ap (λ (x : HistoryContent). cond (is_of k w) (with_write x w.write) x) same
+after_agrees h g (Ok (Some w)) k same = ap (λ (x : HistoryContent). cond (is_write_of k w) (with_write x w.write) x) same
 after_agrees h g (Ok None) k same = same
 after_agrees h g (Err fault) k same = same
 
 -- ---- documents that name an id
 
 -- the id of a document is its `_id`
-text_of_id : (t : Option (List ℕ)) (id : List ℕ) → option_and_then (λ x. id_if x) t ≡ Some id → t ≡ Some id
+text_of_id : (t : Option (List ℕ)) (id : List ℕ) → option_and_then (λ x. id_in_bulk x) t ≡ Some id → t ≡ Some id
 text_of_id None id e = absurd cc
 text_of_id (Some t) id e = by (is_bulk_id t) e
   where

@@ -5,8 +5,8 @@ use Rattle.std.specs.FinMap.{get}
 use Rattle.couch_json.specs.Value.{Value}
 use Rattle.tree.specs.Revision.{Revision}
 use Rattle.tree.specs.NextRevision.{next_revision, number_before}
-use Rattle.tree.specs.Write.{Write, AreWhole, EndsWith, IsBehind, IsKnown, IsLawful as AreWritten, IsParent, IsPathEnd, StandsIn, counts_down, is_whole}
-use Rattle.tree.specs.History.{HistoryContent, chain, content_of, held_of, is_deleted, is_known, is_leaf, keeps_parents, line, placement, winner}
+use Rattle.tree.specs.Write.{Write, AreWhole, EndsWith, IsBehind, IsKnown, AreLawfulWrites as AreWritten, IsParent, IsPathEnd, StandsIn, counts_down, is_whole_path}
+use Rattle.tree.specs.History.{HistoryContent, chain, content_of, held_of, is_deleted, is_known, is_leaf, keeps_parents, path_from, placement, winner}
 use Rattle.tree.specs.declared.entry.Entry.{Entry}
 use Rattle.tree.specs.declared.placement.Placed.TheVariants.{Added, Known}
 use Rattle.tree.specs.declared.placement.TreeFault.TheVariants.{BadPath, OtherParent}
@@ -15,10 +15,10 @@ use Rattle.tree.proofs.Continued.{keeps_where_one_parent}
 use Rattle.tree.proofs.LawfulContents.{chain_is_path}
 use Rattle.tree.proofs.Shown.{inside, is_known_writes, whole_counts}
 use Rattle.store.specs.Database.{Database, history_at}
-use Rattle.store.specs.Lawful.{IsLawful}
+use Rattle.store.specs.Lawful.{IsLawfulDatabase}
 use Rattle.store.proofs.Lawfuls.{writes_behind}
-use Rattle.tree.specs.History.{behind}
-use Rattle.write.specs.Admission.{base, extended_leaf}
+use Rattle.tree.specs.History.{ancestors_of_parent}
+use Rattle.write.specs.Admission.{parent_for_edit, implicit_parent}
 
 -- ---- the path behind a known revision
 
@@ -55,20 +55,20 @@ behind_known (w ∷ ws) r whole (inr i) = let k = behind_known ws r whole.1 i in
 
 -- what stands behind a revision is whole by itself and keeps the parents that are known, and there is nothing behind none
 pub record MayBeFollowed (h : HistoryContent) (parent : Option Revision) : Type 0 where
-  pub counts : counts_down (behind h parent) ≡ true
-  pub keeps : keeps_parents h (behind h parent) ≡ true
-  pub number : number_before parent ≡ length (behind h parent)
+  pub counts : counts_down (ancestors_of_parent h parent) ≡ true
+  pub keeps : keeps_parents h (ancestors_of_parent h parent) ≡ true
+  pub number : number_before parent ≡ length (ancestors_of_parent h parent)
 
 number_of : (r : Revision) (rest : List Revision) → counts_down (r ∷ rest) ≡ true → r.number ≡ suc (length rest)
 number_of r rest c = eqb-true r.number (suc (length rest)) (parts _ _ c).0
 
-known_line : (h : HistoryContent) (r : Revision) (path : List Revision) → is_known h r ≡ true → chain h r ≡ Some path → line h r.number r ≡ path
-known_line h r path known is = inside (line h r.number r) path (sym (ap (λ b. cond b (Some (line h r.number r)) None) known) ∙ is)
+known_line : (h : HistoryContent) (r : Revision) (path : List Revision) → is_known h r ≡ true → chain h r ≡ Some path → path_from h r.number r ≡ path
+known_line h r path known is = inside (path_from h r.number r) path (sym (ap (λ b. cond b (Some (path_from h r.number r)) None) known) ∙ is)
 
 known_goes_on : (ws : List Write) (r : Revision) → AreWritten ws → is_known (content_of ws) r ≡ true → MayBeFollowed (content_of ws) (Some r)
 known_goes_on ws r lawful known =
     let back = behind_known ws r lawful.whole ((is_known_writes ws r).0 known) in
-    let same : line (content_of ws) r.number r ≡ r ∷ back.rest = known_line (content_of ws) r (r ∷ back.rest) known (chain_is_path ws lawful r back.rest back.ending) in
+    let same : path_from (content_of ws) r.number r ≡ r ∷ back.rest = known_line (content_of ws) r (r ∷ back.rest) known (chain_is_path ws lawful r back.rest back.ending) in
     record {
       counts = ap counts_down same ∙ back.counts;
       keeps = ap (keeps_parents (content_of ws)) same
@@ -90,7 +90,7 @@ leaf_known false childless e = e
 followed : (ws : List Write) (r : Revision) (parent : Option Revision) → AreWritten ws → is_known (content_of ws) r ≡ true → Some (Some r) ≡ Some parent → MayBeFollowed (content_of ws) parent
 followed ws r parent lawful known is = subst (MayBeFollowed (content_of ws)) (inside (Some r) parent is) (known_goes_on ws r lawful known)
 
-extended_goes_on : (ws : List Write) (o parent : Option Revision) → AreWritten ws → extended_leaf (content_of ws) o ≡ Some parent → MayBeFollowed (content_of ws) parent
+extended_goes_on : (ws : List Write) (o parent : Option Revision) → AreWritten ws → implicit_parent (content_of ws) o ≡ Some parent → MayBeFollowed (content_of ws) parent
 extended_goes_on ws None parent lawful e = subst (MayBeFollowed (content_of ws)) (inside None parent e) (none_goes_on (content_of ws))
 extended_goes_on ws (Some r) parent lawful e = by (is_deleted (held_of (content_of ws) r)) refl e
   where
@@ -98,7 +98,7 @@ extended_goes_on ws (Some r) parent lawful e = by (is_deleted (held_of (content_
     by true d k = followed ws r parent lawful (deleted_known (content_of ws) r (get (content_of ws) r) refl d) k
     by false d k = cc
 
-base_goes_on : (ws : List Write) (named parent : Option Revision) → AreWritten ws → base (content_of ws) named ≡ Some parent → MayBeFollowed (content_of ws) parent
+base_goes_on : (ws : List Write) (named parent : Option Revision) → AreWritten ws → parent_for_edit (content_of ws) named ≡ Some parent → MayBeFollowed (content_of ws) parent
 base_goes_on ws None parent lawful e = extended_goes_on ws (winner (content_of ws)) parent lawful e
 base_goes_on ws (Some r) parent lawful e = by (is_leaf (content_of ws) r) refl e
   where
@@ -112,36 +112,36 @@ unknown : (o : Option Entry) → is_some o ≡ false → o ≡ None
 unknown None h = refl
 unknown (Some e) h = cc
 
-whole_next : (h : HistoryContent) (parent : Option Revision) (deleted : Bool) (body : Value) → MayBeFollowed h parent → is_whole (next_revision parent deleted body ∷ behind h parent) ≡ true
+whole_next : (h : HistoryContent) (parent : Option Revision) (deleted : Bool) (body : Value) → MayBeFollowed h parent → is_whole_path (next_revision parent deleted body ∷ ancestors_of_parent h parent) ≡ true
 whole_next h parent deleted body k =
-    let number : (number_before parent + 1 == suc (length (behind h parent))) ≡ true = grind (arith, nat_tests, k.number) in rw (number, k.counts) refl
+    let number : (number_before parent + 1 == suc (length (ancestors_of_parent h parent))) ≡ true = grind (arith, nat_tests, k.number) in rw (number, k.counts) refl
 
 -- the write with a new revision comes in
 placed_next : (h : HistoryContent) (parent : Option Revision) (deleted : Bool) (body : Value) → MayBeFollowed h parent → is_known h (next_revision parent deleted body) ≡ false
-    → placement h (next_revision parent deleted body ∷ behind h parent) ≡ Ok Added
+    → placement h (next_revision parent deleted body ∷ ancestors_of_parent h parent) ≡ Ok Added
 placed_next h parent deleted body k new =
     let r = next_revision parent deleted body in
     let whole = whole_next h parent deleted body k in
     let none = unknown (get h r) new in
-    let keeps : keeps_parents h (r ∷ behind h parent) ≡ true = rw (none, k.keeps) refl in
-    by (is_whole (r ∷ behind h parent)) (keeps_parents h (r ∷ behind h parent)) (is_known h r) whole keeps new
+    let keeps : keeps_parents h (r ∷ ancestors_of_parent h parent) ≡ true = rw (none, k.keeps) refl in
+    by (is_whole_path (r ∷ ancestors_of_parent h parent)) (keeps_parents h (r ∷ ancestors_of_parent h parent)) (is_known h r) whole keeps new
   where
     by : (a b c : Bool) → a ≡ true → b ≡ true → c ≡ false → cond (not a) (Err BadPath) (cond (not b) (Err OtherParent) (cond c (Ok Known) (Ok Added))) ≡ Ok Added
     by a b c x y z = rw (x, y, z) refl
 
 -- the history that stands behind what was lawfully written, and a revision that an edit may follow
-pub goes_on : (ws : List Write) (h : HistoryContent) (named parent : Option Revision) → AreWritten ws → h ≡ content_of ws → base h named ≡ Some parent → MayBeFollowed h parent
+pub goes_on : (ws : List Write) (h : HistoryContent) (named parent : Option Revision) → AreWritten ws → h ≡ content_of ws → parent_for_edit h named ≡ Some parent → MayBeFollowed h parent
 goes_on ws h named parent lawful is follows =
-    subst (λ (k : HistoryContent). MayBeFollowed k parent) (sym is) (base_goes_on ws named parent lawful (ap (λ (k : HistoryContent). base k named) (sym is) ∙ follows))
+    subst (λ (k : HistoryContent). MayBeFollowed k parent) (sym is) (base_goes_on ws named parent lawful (ap (λ (k : HistoryContent). parent_for_edit k named) (sym is) ∙ follows))
 
-pub edit_placed : (ws : List Write) (h : HistoryContent) (named parent : Option Revision) (deleted : Bool) (body : Value) → AreWritten ws → h ≡ content_of ws → base h named ≡ Some parent
-    → is_known h (next_revision parent deleted body) ≡ false → placement h (next_revision parent deleted body ∷ behind h parent) ≡ Ok Added
+pub edit_placed : (ws : List Write) (h : HistoryContent) (named parent : Option Revision) (deleted : Bool) (body : Value) → AreWritten ws → h ≡ content_of ws → parent_for_edit h named ≡ Some parent
+    → is_known h (next_revision parent deleted body) ≡ false → placement h (next_revision parent deleted body ∷ ancestors_of_parent h parent) ≡ Ok Added
 edit_placed ws h named parent deleted body lawful is follows new = placed_next h parent deleted body (goes_on ws h named parent lawful is follows) new
 
 -- ---- as laws
 
 added_new : (h : HistoryContent) (r : Revision) (rest : List Revision) → placement h (r ∷ rest) ≡ Ok Added → is_known h r ≡ false
-added_new h r rest is = by (is_whole (r ∷ rest)) (keeps_parents h (r ∷ rest)) (is_known h r) refl is
+added_new h r rest is = by (is_whole_path (r ∷ rest)) (keeps_parents h (r ∷ rest)) (is_known h r) refl is
   where
     by : (a b c : Bool) → is_known h r ≡ c → cond (not a) (Err BadPath) (cond (not b) (Err OtherParent) (cond c (Ok Known) (Ok Added))) ≡ Ok Added → is_known h r ≡ false
     by true true true z e = cc
@@ -149,23 +149,23 @@ added_new h r rest is = by (is_whole (r ∷ rest)) (keeps_parents h (r ∷ rest)
     by true false c z e = cc
     by false b c z e = cc
 
-pub edit_fits : (db : Database) (id : List ℕ) (named parent : Option Revision) (deleted : Bool) (body : Value) → IsLawful db → base (history_at db id) named ≡ Some parent
-    → (placement (history_at db id) (next_revision parent deleted body ∷ behind (history_at db id) parent) ≡ Ok Added) ↔ (is_known (history_at db id) (next_revision parent deleted body) ≡ false)
+pub edit_fits : (db : Database) (id : List ℕ) (named parent : Option Revision) (deleted : Bool) (body : Value) → IsLawfulDatabase db → parent_for_edit (history_at db id) named ≡ Some parent
+    → (placement (history_at db id) (next_revision parent deleted body ∷ ancestors_of_parent (history_at db id) parent) ≡ Ok Added) ↔ (is_known (history_at db id) (next_revision parent deleted body) ≡ false)
 edit_fits db id named parent deleted body lawful is =
     let past = writes_behind db id lawful in (
-      added_new (history_at db id) (next_revision parent deleted body) (behind (history_at db id) parent),
+      added_new (history_at db id) (next_revision parent deleted body) (ancestors_of_parent (history_at db id) parent),
       edit_placed past.0 (history_at db id) named parent deleted body past.1 past.2 is,
     )
 
-pub edit_known : (db : Database) (id : List ℕ) (named parent : Option Revision) (deleted : Bool) (body : Value) → IsLawful db → base (history_at db id) named ≡ Some parent
+pub edit_known : (db : Database) (id : List ℕ) (named parent : Option Revision) (deleted : Bool) (body : Value) → IsLawfulDatabase db → parent_for_edit (history_at db id) named ≡ Some parent
     → is_known (history_at db id) (next_revision parent deleted body) ≡ true
-    → (placement (history_at db id) (next_revision parent deleted body ∷ behind (history_at db id) parent) ≡ Ok Known)
-    ⊎ (placement (history_at db id) (next_revision parent deleted body ∷ behind (history_at db id) parent) ≡ Err OtherParent)
+    → (placement (history_at db id) (next_revision parent deleted body ∷ ancestors_of_parent (history_at db id) parent) ≡ Ok Known)
+    ⊎ (placement (history_at db id) (next_revision parent deleted body ∷ ancestors_of_parent (history_at db id) parent) ≡ Err OtherParent)
 edit_known db id named parent deleted body lawful is known =
     let h = history_at db id in
     let past = writes_behind db id lawful in
     let whole = whole_next h parent deleted body (goes_on past.0 h named parent past.1 past.2 is) in
-    by (is_whole (next_revision parent deleted body ∷ behind h parent)) (keeps_parents h (next_revision parent deleted body ∷ behind h parent)) (is_known h (next_revision parent deleted body))
+    by (is_whole_path (next_revision parent deleted body ∷ ancestors_of_parent h parent)) (keeps_parents h (next_revision parent deleted body ∷ ancestors_of_parent h parent)) (is_known h (next_revision parent deleted body))
     whole known
   where
     by : (a b c : Bool) → a ≡ true → c ≡ true

@@ -1,11 +1,13 @@
 -- A local document that is written has a body.
-use Rattle.std.proofs.Common.{◌≡◌, ℕ, Bool, true, false, List, Option, Some, None, option_map, Result, Ok, refl, ap, subst}
+use Rattle.std.proofs.Common.{◌≡◌, ℕ, Bool, true, false, cond, List, Option, Some, None, option_map, Result, Ok, Err, refl, ap, subst}
 use Rattle.couch_json.specs.Value.{Value, null, truth, whole, text, array, object}
 use Rattle.store.specs.Lawful.{IsBody}
 use Rattle.store.specs.declared.local_document.LocalDocument.{LocalDocument}
+use Rattle.write.specs.Admission.{given}
 use Rattle.write.specs.Document.{without_special}
-use Rattle.write.specs.LocalWrites.{are_local_allowed, local_body, local_by, local_outcome, local_rev, names_stored, next_number, local_of_number}
+use Rattle.write.specs.LocalWrites.{are_local_allowed, local_body, local_outcome, local_rev, names_stored, next_number}
 use Rattle.write.specs.declared.fault.WriteFault.{WriteFault}
+use Rattle.write.specs.declared.fault.WriteFault.TheVariants.{BadDocument, Conflict, Generation}
 use Rattle.write.proofs.Bodies.{body_if-Some}
 
 pub local_body-Some : (document body : Value) → local_body document ≡ Some body → IsBody body
@@ -22,17 +24,15 @@ well d = Ok d
 same : (a b : LocalDocument) → well a ≡ well b → a ≡ b
 same a b e = cc
 
-local_of_number_body : (o : Option ℕ) (body : Value) (d : LocalDocument) → local_of_number o body ≡ Ok d → body ≡ d.body
-local_of_number_body None body d h = absurd cc
-local_of_number_body (Some n) body d h = ap (λ (x : LocalDocument). x.body) (same (record { number = n; body = body }) d h)
-
-with_body : (stored : Option LocalDocument) (names : Option Bool) (body : Option Value) (d : LocalDocument) → ((b : Value) → body ≡ Some b → IsBody b)
-    → local_by stored names body ≡ Ok d → IsBody d.body
-with_body stored None body d are_bodies h = absurd cc
-with_body stored (Some names) None d are_bodies h = absurd cc
-with_body stored (Some false) (Some b) d are_bodies h = absurd cc
-with_body stored (Some true) (Some b) d are_bodies h = subst IsBody (local_of_number_body (next_number stored) b d h) (are_bodies b refl)
+with_body : (number : Option ℕ) (names : Option Bool) (body : Option Value) (d : LocalDocument) → ((b : Value) → body ≡ Some b → IsBody b)
+    → given BadDocument names (λ n. given BadDocument body (λ b. cond n (given Generation number (λ k. well (record { number = k; body = b }))) (Err Conflict))) ≡ Ok d → IsBody d.body
+with_body number None body d are_bodies h = absurd cc
+with_body number (Some names) None d are_bodies h = absurd cc
+with_body number (Some false) (Some b) d are_bodies h = absurd cc
+with_body None (Some true) (Some b) d are_bodies h = absurd cc
+with_body (Some n) (Some true) (Some b) d are_bodies h =
+    subst IsBody (ap (λ (x : LocalDocument). x.body) (same (record { number = n; body = b }) d h)) (are_bodies b refl)
 
 pub local_has_body : (stored : Option LocalDocument) (id : List ℕ) (document : Value) (d : LocalDocument) → local_outcome stored id document ≡ Ok d → IsBody d.body
 local_has_body stored id document d h =
-    with_body stored (option_map (λ rev. names_stored stored rev) (local_rev id document)) (local_body document) d (λ b e. local_body-Some document b e) h
+    with_body (next_number stored) (option_map (λ rev. names_stored stored rev) (local_rev id document)) (local_body document) d (λ b e. local_body-Some document b e) h

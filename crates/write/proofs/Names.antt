@@ -10,13 +10,13 @@ use Rattle.tree.specs.History.{winner}
 use Rattle.tree.specs.declared.placement.Placed.{Placed}
 use Rattle.tree.specs.declared.placement.Placed.TheVariants.{Added, Known}
 use Rattle.tree.specs.declared.placement.TreeFault.{TreeFault}
-use Rattle.write.specs.Admission.{ancestors, ancestry_placement, design_refusal, edit_outcome, nearest_held, placement_outcome, replicated_outcome, rule_refusal, unless_denied, write_at}
+use Rattle.write.specs.Admission.{ancestors, ancestry_placement, design_refusal, edit_outcome, nearest_held, replicated_outcome, rule_refusal, unless_denied, unless_known, write_at}
 use Rattle.write.specs.inner.AncestryRead.{ancestry_of}
 use Rattle.write.specs.Bulk.{Histories, as_outcome}
 use Rattle.write.specs.inner.Drafts.{outcome_asked, request_outcome}
 use Rattle.write.specs.IndexWrites.{has_index, index_document, index_outcome}
 use Rattle.write.specs.Terms.{Terms}
-use Rattle.write.specs.declared.document.Sent.{Sent}
+use Rattle.write.specs.declared.document.ParsedDocument.{ParsedDocument}
 use Rattle.write.specs.declared.draft.Request.{Request}
 use Rattle.write.specs.declared.draft.Request.TheVariants.{Edit, Replicate, Bad, Forbidden}
 use Rattle.write.specs.declared.fault.WriteFault.{WriteFault}
@@ -35,8 +35,8 @@ pub replicated-named : (terms : Terms) (id : List ℕ) (document : Value) (h : H
     → replicated_outcome terms id h document ≡ Ok (Some v) → v.id ≡ id
 replicated-named terms id document h v e = ap (λ (x : DocumentWrite). x.id) (replicated_accepted terms id h document (Some v) e).taken.1
 
-placed-named : (terms : Terms) (id : List ℕ) (h : HistoryContent) (sent : Sent) (path : List Revision) (placed : Result Placed TreeFault) (v : DocumentWrite)
-    → placement_outcome terms id h sent path placed ≡ Ok (Some v) → v.id ≡ id
+placed-named : (terms : Terms) (id : List ℕ) (h : HistoryContent) (sent : ParsedDocument) (path : List Revision) (placed : Result Placed TreeFault) (v : DocumentWrite)
+    → unless_known placed (unless_denied (rule_refusal terms id h sent (nearest_held h (ancestors path))) (Ok (Some (write_at id path sent)))) ≡ Ok (Some v) → v.id ≡ id
 placed-named terms id h sent path (Err fault) v e = absurd cc
 placed-named terms id h sent path (Ok Known) v e = absurd cc
 placed-named terms id h sent path (Ok Added) v e =

@@ -1,5 +1,6 @@
 -- What is known of a write that was accepted, and of one that was denied.
-use Rattle.std.proofs.Common.{◌≡◌, ◌⊎◌, ◌==◌, ℕ, Bool, true, false, cond, List, length, Option, Some, None, option_map, Result, Ok, Err, refl, sym, ap, subst, ◌∙◌, inl, inr}
+use Rattle.std.proofs.Common.{◌≡◌, ◌≢◌, ◌⊎◌, ◌==◌, ℕ, Bool, true, false, cond, List, ◌∷◌, length, Option, Some, None, option_map, Result, Ok, Err, refl, sym, ap, subst, ◌∙◌, inl, inr}
+use Rattle.couch_json.specs.Parts.{is_there_and}
 use Rattle.couch_json.specs.Value.{Value}
 use Rattle.policy.specs.Argument.{argument}
 use Rattle.policy.specs.UpdateRules.{update_verdict}
@@ -8,7 +9,7 @@ use Rattle.policy.specs.declared.action.Action.TheVariants.{WriteDesign}
 use Rattle.policy.specs.declared.rule.Rule.{Rule}
 use Rattle.tree.specs.DocumentId.{is_design_id}
 use Rattle.tree.specs.Revision.{Revision}
-use Rattle.tree.specs.History.{HistoryContent, is_known, placement, winner}
+use Rattle.tree.specs.History.{HistoryContent, ancestors_of_parent, is_known, placement, winner}
 use Rattle.tree.specs.declared.placement.Placed.{Placed}
 use Rattle.tree.specs.declared.placement.Placed.TheVariants.{Added, Known}
 use Rattle.tree.specs.declared.placement.TreeFault.{TreeFault}
@@ -16,15 +17,26 @@ use Rattle.tree.specs.declared.placement.TreeFault.TheVariants.{BadPath}
 use Rattle.auth.specs.Callers.{Identity}
 use Rattle.store.specs.Contents.{IfThere}
 use Rattle.store.specs.Database.{Database, DocumentWrite}
-use Rattle.write.specs.Admission.{ancestors, ancestry_outcome, ancestry_placement, appended_edit, base, design_refusal, held_document, document_of, edit_after, edit_by, edit_with_revision, edit_of, edit_outcome, edit_path, is_known_if_any, nearest_held, placement_outcome, replicated_by, replicated_outcome, revision_after, rule_refusal, unless_denied, unnamed_deletion, write_at}
+use Rattle.write.specs.Admission.{ancestors, ancestry_placement, design_refusal, edit_of, edit_outcome, given, held_document, nearest_held, next_edit, parent_for_edit, placement_outcome, proposed_document, replicated_outcome, revision_after, rule_refusal, unless_denied, unless_known, unnamed_deletion, write_at}
 use Rattle.write.specs.Denials.{EditHasLeave, EditIsDueTo, HasLeave, IsDesignDenial, IsEditDenial, IsReplicationDenial, IsUpdateDenial, ReplicationHasLeave, ReplicationIsDueTo}
 use Rattle.write.specs.Document.{Ancestry, ancestry_in, sent_in}
 use Rattle.write.specs.Bulk.{as_outcome}
 use Rattle.write.specs.IndexWrites.{has_index, index_document, index_outcome}
 use Rattle.write.specs.Terms.{Terms, terms_in}
-use Rattle.write.specs.declared.document.Sent.{Sent}
+use Rattle.write.specs.declared.document.ParsedDocument.{ParsedDocument}
 use Rattle.write.specs.declared.fault.WriteFault.{WriteFault}
-use Rattle.write.specs.declared.fault.WriteFault.TheVariants.{Conflict, Denied, Generation}
+use Rattle.write.specs.declared.fault.WriteFault.TheVariants.{BadDocument, Conflict, Denied, Generation}
+
+-- ---- what came next of what was there
+
+found : {A B : Type 0} (fault : WriteFault) (o : Option A) (next : A → Result B WriteFault) (v : B) → given fault o next ≡ Ok v → (a : A) × (o ≡ Some a) × (next a ≡ Ok v)
+found fault None next v e = absurd cc
+found fault (Some a) next v e = (a, refl, e)
+
+found_denied : {A B : Type 0} (fault : WriteFault) (o : Option A) (next : A → Result B WriteFault) (rule : Rule) → fault ≢ Denied rule
+    → given fault o next ≡ Err (Denied rule) → (a : A) × (o ≡ Some a) × (next a ≡ Err (Denied rule))
+found_denied fault None next rule other e = absurd (other (let same : Err fault ≡ Err (Denied rule) = e in cc))
+found_denied fault (Some a) next rule other e = (a, refl, e)
 
 -- ---- by a rule or without one
 
@@ -47,12 +59,12 @@ design_denial terms id rule e = by (is_design_id id) refl e
     by true d k = record { design = d; first = k }
     by false d k = absurd cc
 
-update_denial : (terms : Terms) (id : List ℕ) (h : HistoryContent) (sent : Sent) (rev : Option Revision) (rule : Rule)
+update_denial : (terms : Terms) (id : List ℕ) (h : HistoryContent) (sent : ParsedDocument) (rev : Option Revision) (rule : Rule)
     → rule_refusal terms id h sent rev ≡ Some rule → IsUpdateDenial terms id h sent rev rule
 update_denial terms id h sent rev rule e = by (is_design_id id) refl e
   where
     by : (b : Bool) → is_design_id id ≡ b
-        → cond b None (update_verdict terms.rules (argument (document_of id sent) (held_document id h rev) terms.caller terms.name terms.security)) ≡ Some rule
+        → cond b None (update_verdict terms.rules (argument (proposed_document id sent) (held_document id h rev) terms.caller terms.name terms.security)) ≡ Some rule
         → IsUpdateDenial terms id h sent rev rule
     by true d k = absurd cc
     by false d k = record { other = d; first = k }
@@ -61,104 +73,84 @@ update_denial terms id h sent rev rule e = by (is_design_id id) refl e
 
 -- the write of an edit that was accepted
 pub record IsEdit (terms : Terms) (id : List ℕ) (h : HistoryContent) (query : Option Revision) (document : Value) (v : DocumentWrite) : Type 0 where
-  pub sent : Sent
+  pub sent : ParsedDocument
   pub parent : Option Revision
   pub rev : Revision
   pub says : edit_of id query document ≡ Some sent
-  pub follows : base h sent.rev ≡ Some parent
+  pub allowed : design_refusal terms id ≡ None
+  pub follows : parent_for_edit h sent.rev ≡ Some parent
   pub makes : revision_after sent parent ≡ Some rev
   pub unknown : is_known h rev ≡ false
   pub ruled : rule_refusal terms id h sent parent ≡ None
-  pub is : v ≡ write_at id (edit_path h parent rev) sent
+  pub is : v ≡ write_at id (rev ∷ ancestors_of_parent h parent) sent
 
 same_write : (w v : DocumentWrite) (r : Result DocumentWrite WriteFault) → r ≡ Ok w → r ≡ Ok v → v ≡ w
 same_write w v r is e = cc
 
-made : (terms : Terms) (id : List ℕ) (h : HistoryContent) (query : Option Revision) (document : Value) (sent : Sent) (parent next : Option Revision) (v : DocumentWrite)
-    → edit_of id query document ≡ Some sent → base h sent.rev ≡ Some parent → revision_after sent parent ≡ next
-    → edit_with_revision terms id h sent parent next ≡ Ok v → IsEdit terms id h query document v
-made terms id h query document sent parent None v says follows makes e =
-    let none : Err Generation ≡ Ok v = undenied (rule_refusal terms id h sent parent) (Err Generation) v e in absurd cc
-made terms id h query document sent parent (Some r) v says follows makes e = by (is_known h r) refl e
-  where
-    by : (known : Bool) → is_known h r ≡ known
-        → cond known (Err Conflict) (unless_denied (rule_refusal terms id h sent parent) (Ok (write_at id (edit_path h parent r) sent))) ≡ Ok v
-        → IsEdit terms id h query document v
-    by true k e = absurd cc
-    by false k e = record {
-      sent = sent;
-      parent = parent;
-      rev = r;
-      says = says;
-      follows = follows;
-      makes = makes;
-      unknown = k;
-      ruled = unrefused (rule_refusal terms id h sent parent) (Ok (write_at id (edit_path h parent r) sent)) v e;
-      is = same_write (write_at id (edit_path h parent r) sent) v _ refl
-          (undenied (rule_refusal terms id h sent parent) (Ok (write_at id (edit_path h parent r) sent)) v e);
-    }
+new : {A : Type 0} (known : Bool) (r : Result A WriteFault) (v : A) → cond known (Err Conflict) r ≡ Ok v → (known ≡ false) × (r ≡ Ok v)
+new true r v e = absurd cc
+new false r v e = (refl, e)
 
-after_base : (terms : Terms) (id : List ℕ) (h : HistoryContent) (query : Option Revision) (document : Value) (sent : Sent) (parent : Option (Option Revision)) (v : DocumentWrite)
-    → edit_of id query document ≡ Some sent → base h sent.rev ≡ parent → edit_after terms id h sent parent ≡ Ok v → IsEdit terms id h query document v
-after_base terms id h query document sent None v says follows e = absurd cc
-after_base terms id h query document sent (Some parent) v says follows e =
-    made terms id h query document sent parent (revision_after sent parent) v says follows refl e
-
-by_edit : (terms : Terms) (id : List ℕ) (h : HistoryContent) (query : Option Revision) (document : Value) (edit : Option Sent) (v : DocumentWrite)
-    → edit_of id query document ≡ edit → edit_by terms id h edit ≡ Ok v → IsEdit terms id h query document v
-by_edit terms id h query document None v says e = absurd cc
-by_edit terms id h query document (Some sent) v says e =
-    after_base terms id h query document sent (base h sent.rev) v says refl (undenied (design_refusal terms id) (edit_after terms id h sent (base h sent.rev)) v e)
-
-pub edit_allowed : (terms : Terms) (id : List ℕ) (h : HistoryContent) (edit : Option Sent) (v : DocumentWrite) → edit_by terms id h edit ≡ Ok v → design_refusal terms id ≡ None
-edit_allowed terms id h None v e = absurd cc
-edit_allowed terms id h (Some sent) v e = unrefused (design_refusal terms id) (edit_after terms id h sent (base h sent.rev)) v e
+new_denied : {A : Type 0} (known : Bool) (r : Result A WriteFault) (rule : Rule) → cond known (Err Conflict) r ≡ Err (Denied rule) → (known ≡ false) × (r ≡ Err (Denied rule))
+new_denied true r rule e = absurd cc
+new_denied false r rule e = (refl, e)
 
 pub edit_accepted : (terms : Terms) (id : List ℕ) (h : HistoryContent) (query : Option Revision) (document : Value) (v : DocumentWrite)
     → edit_outcome terms id h query document ≡ Ok v → IsEdit terms id h query document v
-edit_accepted terms id h query document v e = by_edit terms id h query document (edit_of id query document) v refl e
+edit_accepted terms id h query document v e =
+    let says = found BadDocument (edit_of id query document) _ v e in
+    let sent : ParsedDocument = says.0 in
+    let follows = found Conflict (parent_for_edit h sent.rev) _ v (undenied (design_refusal terms id) _ v says.2) in
+    let parent : Option Revision = follows.0 in
+    let unknown = new (is_there_and (is_known h) (revision_after sent parent)) _ v follows.2 in
+    let makes = found Generation (revision_after sent parent) _ v (undenied (rule_refusal terms id h sent parent) _ v unknown.1) in
+    record {
+      sent = sent;
+      parent = parent;
+      rev = makes.0;
+      says = says.1;
+      allowed = unrefused (design_refusal terms id) _ v says.2;
+      follows = follows.1;
+      makes = makes.1;
+      unknown = sym (ap (is_there_and (is_known h)) makes.1) ∙ unknown.0;
+      ruled = unrefused (rule_refusal terms id h sent parent) _ v unknown.1;
+      is = same_write (write_at id (makes.0 ∷ ancestors_of_parent h parent) sent) v _ refl makes.2;
+    }
 
 -- ---- denied edits
 
-made_denied : (terms : Terms) (id : List ℕ) (h : HistoryContent) (sent : Sent) (parent next : Option Revision) (rule : Rule)
-    → edit_with_revision terms id h sent parent next ≡ Err (Denied rule) → (is_known_if_any h next ≡ false) × IsUpdateDenial terms id h sent parent rule
-made_denied terms id h sent parent next rule e = by (is_known_if_any h next) refl e
-  where
-    appended : (next : Option Revision) → appended_edit id h sent parent next ≡ Err (Denied rule) → ⊥
-    appended None k = cc
-    appended (Some r) k = cc
+no_denial : {A : Type 0} (v : A) (rule : Rule) → Ok v ≡ Err (Denied rule) → ⊥
+no_denial v rule e = cc
 
-    of_rule : (rule_refusal terms id h sent parent ≡ Some rule) ⊎ (appended_edit id h sent parent next ≡ Err (Denied rule)) → IsUpdateDenial terms id h sent parent rule
+made_denied : (terms : Terms) (id : List ℕ) (h : HistoryContent) (sent : ParsedDocument) (parent : Option Revision) (rule : Rule)
+    → next_edit terms id h sent parent ≡ Err (Denied rule) → (is_there_and (is_known h) (revision_after sent parent) ≡ false) × IsUpdateDenial terms id h sent parent rule
+made_denied terms id h sent parent rule e =
+    let unknown = new_denied (is_there_and (is_known h) (revision_after sent parent)) _ rule e in
+    (unknown.0, of_rule (denied_by (rule_refusal terms id h sent parent) _ rule unknown.1))
+  where
+    of_rule : (rule_refusal terms id h sent parent ≡ Some rule)
+        ⊎ (given Generation (revision_after sent parent) (λ rev. Ok (write_at id (rev ∷ ancestors_of_parent h parent) sent)) ≡ Err (Denied rule))
+        → IsUpdateDenial terms id h sent parent rule
     of_rule (inl k) = update_denial terms id h sent parent rule k
-    of_rule (inr k) = absurd (appended next k)
+    of_rule (inr k) = absurd (no_denial _ rule (found_denied Generation (revision_after sent parent) _ rule (λ wrong. cc) k).2)
 
-    by : (known : Bool) → is_known_if_any h next ≡ known
-        → cond known (Err Conflict) (unless_denied (rule_refusal terms id h sent parent) (appended_edit id h sent parent next)) ≡ Err (Denied rule)
-        → (is_known_if_any h next ≡ false) × IsUpdateDenial terms id h sent parent rule
-    by true is e = absurd cc
-    by false is e = (is, of_rule (denied_by (rule_refusal terms id h sent parent) (appended_edit id h sent parent next) rule e))
-
-base_denied : (terms : Terms) (id : List ℕ) (h : HistoryContent) (sent : Sent) (parent : Option (Option Revision)) (rule : Rule)
-    → base h sent.rev ≡ parent → edit_after terms id h sent parent ≡ Err (Denied rule) → IsEditDenial terms id h sent rule
-base_denied terms id h sent None rule follows e = absurd cc
-base_denied terms id h sent (Some parent) rule follows e =
-    let k = made_denied terms id h sent parent (revision_after sent parent) rule e in
-    record { parent = parent; follows = follows; unknown = k.0; due = k.1 }
-
-edit_by-denied : (terms : Terms) (id : List ℕ) (h : HistoryContent) (query : Option Revision) (document : Value) (edit : Option Sent) (rule : Rule)
-    → edit_of id query document ≡ edit → edit_by terms id h edit ≡ Err (Denied rule) → EditIsDueTo terms id h query document rule
-edit_by-denied terms id h query document None rule says e = absurd cc
-edit_by-denied terms id h query document (Some sent) rule says e =
-    record { sent = sent; says = says; due = by (denied_by (design_refusal terms id) (edit_after terms id h sent (base h sent.rev)) rule e) }
-  where
-    by : (design_refusal terms id ≡ Some rule) ⊎ (edit_after terms id h sent (base h sent.rev) ≡ Err (Denied rule))
-        → IsDesignDenial terms id rule ⊎ IsEditDenial terms id h sent rule
-    by (inl k) = inl (design_denial terms id rule k)
-    by (inr k) = inr (base_denied terms id h sent (base h sent.rev) rule refl k)
+following_denied : (terms : Terms) (id : List ℕ) (h : HistoryContent) (sent : ParsedDocument) (rule : Rule)
+    → given Conflict (parent_for_edit h sent.rev) (next_edit terms id h sent) ≡ Err (Denied rule) → IsEditDenial terms id h sent rule
+following_denied terms id h sent rule e =
+    let follows = found_denied Conflict (parent_for_edit h sent.rev) _ rule (λ wrong. cc) e in
+    let k = made_denied terms id h sent follows.0 rule follows.2 in
+    record { parent = follows.0; follows = follows.1; unknown = k.0; due = k.1 }
 
 pub edit_denied : (terms : Terms) (id : List ℕ) (h : HistoryContent) (query : Option Revision) (document : Value) (rule : Rule)
     → edit_outcome terms id h query document ≡ Err (Denied rule) → EditIsDueTo terms id h query document rule
-edit_denied terms id h query document rule e = edit_by-denied terms id h query document (edit_of id query document) rule refl e
+edit_denied terms id h query document rule e =
+    let says = found_denied BadDocument (edit_of id query document) _ rule (λ wrong. cc) e in
+    record { sent = says.0; says = says.1; due = by says.0 (denied_by (design_refusal terms id) _ rule says.2) }
+  where
+    by : (sent : ParsedDocument) → (design_refusal terms id ≡ Some rule) ⊎ (given Conflict (parent_for_edit h sent.rev) (next_edit terms id h sent) ≡ Err (Denied rule))
+        → IsDesignDenial terms id rule ⊎ IsEditDenial terms id h sent rule
+    by sent (inl k) = inl (design_denial terms id rule k)
+    by sent (inr k) = inr (following_denied terms id h sent rule k)
 
 abbrev conflicting : Result DocumentWrite WriteFault
 conflicting = Err Conflict
@@ -186,7 +178,7 @@ as_outcome-denied : (r : Result DocumentWrite WriteFault) (rule : Rule) → as_o
 as_outcome-denied (Ok w) rule e = absurd cc
 as_outcome-denied (Err fault) rule e = cc
 
-design_alone : (terms : Terms) (id : List ℕ) (h : HistoryContent) (sent : Sent) (rule : Rule) → is_design_id id ≡ true
+design_alone : (terms : Terms) (id : List ℕ) (h : HistoryContent) (sent : ParsedDocument) (rule : Rule) → is_design_id id ≡ true
     → IsDesignDenial terms id rule ⊎ IsEditDenial terms id h sent rule → IsDesignDenial terms id rule
 design_alone terms id h sent rule design (inl k) = k
 design_alone terms id h sent rule design (inr k) = absurd (let wrong : true ≡ false = sym design ∙ k.due.other in cc)
@@ -219,14 +211,14 @@ index_denied terms id h name fields rule design e =
 -- ---- replicated writes
 
 -- the write of a path that the history had a place for, or none where its revision is known
-abbrev pub IsTaken : Terms → List ℕ → HistoryContent → Sent → List Revision → Option DocumentWrite → Type 0
+abbrev pub IsTaken : Terms → List ℕ → HistoryContent → ParsedDocument → List Revision → Option DocumentWrite → Type 0
 IsTaken terms id h sent path None = placement h path ≡ Ok Known
 IsTaken terms id h sent path (Some v) =
     (placement h path ≡ Ok Added) × (v ≡ write_at id path sent) × (rule_refusal terms id h sent (nearest_held h (ancestors path)) ≡ None)
 
 -- what became of a replicated document that was accepted
 pub record IsReplicated (terms : Terms) (id : List ℕ) (h : HistoryContent) (document : Value) (w : Option DocumentWrite) : Type 0 where
-  pub sent : Sent
+  pub sent : ParsedDocument
   pub ancestry : Ancestry
   pub says : sent_in id document ≡ Some sent
   pub leads : ancestry_in document sent.rev ≡ Some ancestry
@@ -241,52 +233,46 @@ whole_placed h ancestry placed e = by (ancestry.start == length ancestry.path) e
     by true k = k
     by false k = absurd cc
 
-taken_by : (terms : Terms) (id : List ℕ) (h : HistoryContent) (sent : Sent) (ancestry : Ancestry) (placed : Result Placed TreeFault) (w : Option DocumentWrite)
-    → ancestry_placement h ancestry ≡ placed → placement_outcome terms id h sent ancestry.path placed ≡ Ok w → IsTaken terms id h sent ancestry.path w
+taken_by : (terms : Terms) (id : List ℕ) (h : HistoryContent) (sent : ParsedDocument) (ancestry : Ancestry) (placed : Result Placed TreeFault) (w : Option DocumentWrite)
+    → ancestry_placement h ancestry ≡ placed
+    → unless_known placed (unless_denied (rule_refusal terms id h sent (nearest_held h (ancestors ancestry.path))) (Ok (Some (write_at id ancestry.path sent)))) ≡ Ok w
+    → (ancestry_placement h ancestry ≡ placement h ancestry.path) × IsTaken terms id h sent ancestry.path w
 taken_by terms id h sent ancestry (Err fault) w is e = absurd cc
-taken_by terms id h sent ancestry (Ok Known) None is e = whole_placed h ancestry Known is
+taken_by terms id h sent ancestry (Ok Known) None is e = let whole = whole_placed h ancestry Known is in (is ∙ sym whole, whole)
 taken_by terms id h sent ancestry (Ok Known) (Some v) is e = absurd cc
 taken_by terms id h sent ancestry (Ok Added) None is e =
     let none : Ok (Some (write_at id ancestry.path sent)) ≡ Ok None = undenied (rule_refusal terms id h sent (nearest_held h (ancestors ancestry.path))) (Ok (Some (write_at id ancestry.path sent))) None e in absurd cc
 taken_by terms id h sent ancestry (Ok Added) (Some v) is e =
+    let whole = whole_placed h ancestry Added is in
     let same : Ok (Some (write_at id ancestry.path sent)) ≡ Ok (Some v) =
     undenied (rule_refusal terms id h sent (nearest_held h (ancestors ancestry.path))) (Ok (Some (write_at id ancestry.path sent))) (Some v) e in
-    (whole_placed h ancestry Added is, cc, unrefused (rule_refusal terms id h sent (nearest_held h (ancestors ancestry.path))) (Ok (Some (write_at id ancestry.path sent))) (Some v) e)
-
-whole_by : (terms : Terms) (id : List ℕ) (h : HistoryContent) (sent : Sent) (ancestry : Ancestry) (placed : Result Placed TreeFault) (w : Option DocumentWrite)
-    → ancestry_placement h ancestry ≡ placed → placement_outcome terms id h sent ancestry.path placed ≡ Ok w → ancestry_placement h ancestry ≡ placement h ancestry.path
-whole_by terms id h sent ancestry (Err fault) w is e = absurd cc
-whole_by terms id h sent ancestry (Ok placed) w is e = is ∙ sym (whole_placed h ancestry placed is)
-
-by_ancestry : (terms : Terms) (id : List ℕ) (h : HistoryContent) (document : Value) (sent : Sent) (ancestry : Option Ancestry) (w : Option DocumentWrite)
-    → sent_in id document ≡ Some sent → ancestry_in document sent.rev ≡ ancestry → ancestry_outcome terms id h sent ancestry ≡ Ok w → IsReplicated terms id h document w
-by_ancestry terms id h document sent None w says leads e = absurd cc
-by_ancestry terms id h document sent (Some ancestry) w says leads e =
-    record {
-      sent = sent;
-      ancestry = ancestry;
-      says = says;
-      leads = leads;
-      allowed = unrefused (design_refusal terms id) (placement_outcome terms id h sent ancestry.path (ancestry_placement h ancestry)) w e;
-      whole = whole_by terms id h sent ancestry (ancestry_placement h ancestry) w refl
-          (undenied (design_refusal terms id) (placement_outcome terms id h sent ancestry.path (ancestry_placement h ancestry)) w e);
-      taken = taken_by terms id h sent ancestry (ancestry_placement h ancestry) w refl
-          (undenied (design_refusal terms id) (placement_outcome terms id h sent ancestry.path (ancestry_placement h ancestry)) w e);
-    }
-
-by_sent : (terms : Terms) (id : List ℕ) (h : HistoryContent) (document : Value) (sent : Option Sent) (w : Option DocumentWrite)
-    → sent_in id document ≡ sent → replicated_by terms id h document sent ≡ Ok w → IsReplicated terms id h document w
-by_sent terms id h document None w says e = absurd cc
-by_sent terms id h document (Some sent) w says e = by_ancestry terms id h document sent (ancestry_in document sent.rev) w says refl e
+    (is ∙ sym whole, (whole, cc, unrefused (rule_refusal terms id h sent (nearest_held h (ancestors ancestry.path))) (Ok (Some (write_at id ancestry.path sent))) (Some v) e))
 
 pub replicated_accepted : (terms : Terms) (id : List ℕ) (h : HistoryContent) (document : Value) (w : Option DocumentWrite)
     → replicated_outcome terms id h document ≡ Ok w → IsReplicated terms id h document w
-replicated_accepted terms id h document w e = by_sent terms id h document (sent_in id document) w refl e
+replicated_accepted terms id h document w e =
+    let says = found BadDocument (sent_in id document) _ w e in
+    let sent : ParsedDocument = says.0 in
+    let leads = found BadDocument (ancestry_in document sent.rev) _ w says.2 in
+    let ancestry : Ancestry = leads.0 in
+    let placed = undenied (design_refusal terms id) (placement_outcome terms id h sent ancestry) w leads.2 in
+    let k = taken_by terms id h sent ancestry (ancestry_placement h ancestry) w refl placed in
+    record {
+      sent = sent;
+      ancestry = ancestry;
+      says = says.1;
+      leads = leads.1;
+      allowed = unrefused (design_refusal terms id) (placement_outcome terms id h sent ancestry) w leads.2;
+      whole = k.0;
+      taken = k.1;
+    }
 
 -- ---- denied replicated writes
 
-placed_denied : (terms : Terms) (id : List ℕ) (h : HistoryContent) (sent : Sent) (ancestry : Ancestry) (placed : Result Placed TreeFault) (rule : Rule)
-    → ancestry_placement h ancestry ≡ placed → placement_outcome terms id h sent ancestry.path placed ≡ Err (Denied rule) → IsReplicationDenial terms id h sent ancestry rule
+placed_denied : (terms : Terms) (id : List ℕ) (h : HistoryContent) (sent : ParsedDocument) (ancestry : Ancestry) (placed : Result Placed TreeFault) (rule : Rule)
+    → ancestry_placement h ancestry ≡ placed
+    → unless_known placed (unless_denied (rule_refusal terms id h sent (nearest_held h (ancestors ancestry.path))) (Ok (Some (write_at id ancestry.path sent)))) ≡ Err (Denied rule)
+    → IsReplicationDenial terms id h sent ancestry rule
 placed_denied terms id h sent ancestry (Err fault) rule is e = absurd cc
 placed_denied terms id h sent ancestry (Ok Known) rule is e = absurd cc
 placed_denied terms id h sent ancestry (Ok Added) rule is e =
@@ -297,44 +283,37 @@ placed_denied terms id h sent ancestry (Ok Added) rule is e =
     by (inl k) = update_denial terms id h sent (nearest_held h (ancestors ancestry.path)) rule k
     by (inr k) = absurd cc
 
-ancestry_denied : (terms : Terms) (id : List ℕ) (h : HistoryContent) (document : Value) (sent : Sent) (ancestry : Option Ancestry) (rule : Rule)
-    → sent_in id document ≡ Some sent → ancestry_in document sent.rev ≡ ancestry → ancestry_outcome terms id h sent ancestry ≡ Err (Denied rule)
-    → ReplicationIsDueTo terms id h document rule
-ancestry_denied terms id h document sent None rule says leads e = absurd cc
-ancestry_denied terms id h document sent (Some ancestry) rule says leads e =
+pub replicated_denied : (terms : Terms) (id : List ℕ) (h : HistoryContent) (document : Value) (rule : Rule)
+    → replicated_outcome terms id h document ≡ Err (Denied rule) → ReplicationIsDueTo terms id h document rule
+replicated_denied terms id h document rule e =
+    let says = found_denied BadDocument (sent_in id document) _ rule (λ wrong. cc) e in
+    let sent : ParsedDocument = says.0 in
+    let leads = found_denied BadDocument (ancestry_in document sent.rev) _ rule (λ wrong. cc) says.2 in
+    let ancestry : Ancestry = leads.0 in
     record {
       sent = sent;
       ancestry = ancestry;
-      says = says;
-      leads = leads;
-      due = by (denied_by (design_refusal terms id) (placement_outcome terms id h sent ancestry.path (ancestry_placement h ancestry)) rule e);
+      says = says.1;
+      leads = leads.1;
+      due = by sent ancestry (denied_by (design_refusal terms id) (placement_outcome terms id h sent ancestry) rule leads.2);
     }
   where
-    by : (design_refusal terms id ≡ Some rule) ⊎ (placement_outcome terms id h sent ancestry.path (ancestry_placement h ancestry) ≡ Err (Denied rule))
+    by : (sent : ParsedDocument) (ancestry : Ancestry) → (design_refusal terms id ≡ Some rule) ⊎ (placement_outcome terms id h sent ancestry ≡ Err (Denied rule))
         → IsDesignDenial terms id rule ⊎ IsReplicationDenial terms id h sent ancestry rule
-    by (inl k) = inl (design_denial terms id rule k)
-    by (inr k) = inr (placed_denied terms id h sent ancestry (ancestry_placement h ancestry) rule refl k)
-
-sent_denied : (terms : Terms) (id : List ℕ) (h : HistoryContent) (document : Value) (sent : Option Sent) (rule : Rule)
-    → sent_in id document ≡ sent → replicated_by terms id h document sent ≡ Err (Denied rule) → ReplicationIsDueTo terms id h document rule
-sent_denied terms id h document None rule says e = absurd cc
-sent_denied terms id h document (Some sent) rule says e = ancestry_denied terms id h document sent (ancestry_in document sent.rev) rule says refl e
-
-pub replicated_denied : (terms : Terms) (id : List ℕ) (h : HistoryContent) (document : Value) (rule : Rule)
-    → replicated_outcome terms id h document ≡ Err (Denied rule) → ReplicationIsDueTo terms id h document rule
-replicated_denied terms id h document rule e = sent_denied terms id h document (sent_in id document) rule refl e
+    by sent ancestry (inl k) = inl (design_denial terms id rule k)
+    by sent ancestry (inr k) = inr (placed_denied terms id h sent ancestry (ancestry_placement h ancestry) rule refl k)
 
 -- ---- by leave of the rules
 
 design_leave : (terms : Terms) (id : List ℕ) → design_refusal terms id ≡ None → is_design_id id ≡ true → verdict WriteDesign terms.caller terms.security ≡ None
 design_leave terms id e is = sym (ap (λ b. cond b (verdict WriteDesign terms.caller terms.security) None) is) ∙ e
 
-update_leave : (terms : Terms) (id : List ℕ) (h : HistoryContent) (sent : Sent) (rev : Option Revision) → rule_refusal terms id h sent rev ≡ None → is_design_id id ≡ false
-    → update_verdict terms.rules (argument (document_of id sent) (held_document id h rev) terms.caller terms.name terms.security) ≡ None
+update_leave : (terms : Terms) (id : List ℕ) (h : HistoryContent) (sent : ParsedDocument) (rev : Option Revision) → rule_refusal terms id h sent rev ≡ None → is_design_id id ≡ false
+    → update_verdict terms.rules (argument (proposed_document id sent) (held_document id h rev) terms.caller terms.name terms.security) ≡ None
 update_leave terms id h sent rev e is =
-    sym (ap (λ b. cond b None (update_verdict terms.rules (argument (document_of id sent) (held_document id h rev) terms.caller terms.name terms.security))) is) ∙ e
+    sym (ap (λ b. cond b None (update_verdict terms.rules (argument (proposed_document id sent) (held_document id h rev) terms.caller terms.name terms.security))) is) ∙ e
 
-leave : (terms : Terms) (id : List ℕ) (h : HistoryContent) (sent : Sent) (rev : Option Revision) → design_refusal terms id ≡ None → rule_refusal terms id h sent rev ≡ None → HasLeave terms id h sent rev
+leave : (terms : Terms) (id : List ℕ) (h : HistoryContent) (sent : ParsedDocument) (rev : Option Revision) → design_refusal terms id ≡ None → rule_refusal terms id h sent rev ≡ None → HasLeave terms id h sent rev
 leave terms id h sent rev allowed ruled = record { design = design_leave terms id allowed; updates = update_leave terms id h sent rev ruled }
 
 pub edit_leave : (terms : Terms) (id : List ℕ) (h : HistoryContent) (query : Option Revision) (document : Value) (v : DocumentWrite)
@@ -346,8 +325,8 @@ edit_leave terms id h query document v e =
       parent = k.parent;
       says = k.says;
       follows = k.follows;
-      unknown = ap (is_known_if_any h) k.makes ∙ k.unknown;
-      leave = leave terms id h k.sent k.parent (edit_allowed terms id h (edit_of id query document) v e) k.ruled;
+      unknown = ap (is_there_and (is_known h)) k.makes ∙ k.unknown;
+      leave = leave terms id h k.sent k.parent k.allowed k.ruled;
     }
 
 pub replicated_leave : (terms : Terms) (id : List ℕ) (h : HistoryContent) (document : Value) (v : DocumentWrite)

@@ -13,12 +13,13 @@ use Rattle.tree.specs.declared.placement.Placed.TheVariants.{Added, Known}
 use Rattle.tree.specs.declared.placement.TreeFault.TheVariants.{BadPath, OtherParent}
 use Rattle.tree.proofs.Contents.{entry_kept, or, write_shows}
 use Rattle.tree.proofs.Shown.{stands_found}
-use Rattle.store.specs.Database.{Database, DocumentWrite, history_at, is_of, with_all}
-use Rattle.write.specs.Admission.{replicated_outcome}
-use Rattle.write.specs.Bulk.{Histories, DocumentOutcome, after, outcome_by_id, outcome_in, outcomes, put_before, writes_in}
+use Rattle.store.specs.Database.{Database, DocumentWrite, history_at, is_write_of, with_all}
+use Rattle.write.specs.Admission.{given, replicated_outcome}
+use Rattle.write.specs.Bulk.{Histories, DocumentOutcome, after, document_outcome, outcome_in, outcomes, put_before, writes_in}
 use Rattle.write.specs.Document.{id_in}
 use Rattle.write.specs.Settling.{AreKnownOrRefused, IsKnownIn, IsKnownOrRefused, after_all}
 use Rattle.write.specs.Terms.{Terms}
+use Rattle.write.specs.declared.fault.WriteFault.TheVariants.{BadDocument}
 use Rattle.write.proofs.Acceptances.{after_is, db_after}
 use Rattle.write.proofs.Outcomes.{IsReplicated, replicated_accepted}
 
@@ -30,7 +31,7 @@ kept h w r false k = k
 
 kept_after : (histories : Histories) (o : DocumentOutcome) (id : List ℕ) (r : Revision)
     → IsTrue (is_known (histories id) r) → IsTrue (is_known (after histories o id) r)
-kept_after histories (Ok (Some w)) id r k = kept (histories id) w.write r (is_of id w) k
+kept_after histories (Ok (Some w)) id r k = kept (histories id) w.write r (is_write_of id w) k
 kept_after histories (Ok None) id r k = k
 kept_after histories (Err fault) id r k = k
 
@@ -55,7 +56,7 @@ newest_known : (h : HistoryContent) (w : tree.Write) (r : Revision) (rest : List
 newest_known h w r rest is =
     let stands : tree.StandsIn w.path r = subst (λ path. tree.StandsIn path r) (sym is) (inl refl) in
     ap is_some (write_shows h w r)
-    ∙ or_found _ (find revision_cmp r (write_entries w)) (stands_found w.path (Some (tree.held_by w)) r stands)
+    ∙ or_found _ (find revision_cmp r (write_entries w)) (stands_found w.path (Some (tree.held_of_write w)) r stands)
 
 head_known : (bad other known : Bool) → cond bad (Err BadPath) (cond other (Err OtherParent) (cond known (Ok Known) (Ok Added))) ≡ Ok Known → known ≡ true
 head_known true other known e = absurd cc
@@ -84,7 +85,7 @@ outcome_settled : (terms : Terms) (histories : Histories) (id : List ℕ) (docum
     → IsReplicated terms id (histories id) document w → IsKnownIn (after histories (Ok w)) document
 outcome_settled terms histories id document (Some v) named k =
     let front = not_empty (histories id) k.ancestry.path Added k.taken.0 in
-    let own : is_of id v ≡ true = (bytes_eq-Decides v.id id).1 (ap (λ (x : DocumentWrite). x.id) k.taken.1) in
+    let own : is_write_of id v ≡ true = (bytes_eq-Decides v.id id).1 (ap (λ (x : DocumentWrite). x.id) k.taken.1) in
     settled terms histories id document (Some v) k front.0 front.1 named front.2
     (subst (λ b. IsTrue (is_known (cond b (with_write (histories id) v.write) (histories id)) front.0)) (sym own)
     (newest_known (histories id) v.write front.0 front.1 (ap (λ (x : DocumentWrite). x.write.path) k.taken.1 ∙ front.2)))
@@ -99,7 +100,8 @@ result_settled terms histories id document (Err fault) named e = tt
 result_settled terms histories id document (Ok w) named e = outcome_settled terms histories id document w named (replicated_accepted terms id (histories id) document w e)
 
 id_settled : (terms : Terms) (histories : Histories) (document : Value) (id : Option (List ℕ)) → id_in document ≡ id
-    → IsKnownOrRefused (after histories (outcome_by_id terms false histories document id)) document (outcome_by_id terms false histories document id)
+    → IsKnownOrRefused (after histories (given BadDocument id (λ k. document_outcome terms false k (histories k) document))) document
+    (given BadDocument id (λ k. document_outcome terms false k (histories k) document))
 id_settled terms histories document None named = tt
 id_settled terms histories document (Some id) named = result_settled terms histories id document (replicated_outcome terms id (histories id) document) named refl
 

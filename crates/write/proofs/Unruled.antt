@@ -8,27 +8,27 @@ use Rattle.policy.specs.UpdateRules.{first_broken, update_verdict}
 use Rattle.tree.specs.DocumentId.{is_design_id}
 use Rattle.tree.specs.History.{HistoryContent}
 use Rattle.tree.specs.Revision.{Revision}
-use Rattle.write.specs.Admission.{held_document, document_of, rule_refusal}
+use Rattle.write.specs.Admission.{held_document, proposed_document, rule_refusal}
 use Rattle.write.specs.Terms.{Terms}
-use Rattle.write.specs.declared.document.Sent.{Sent}
+use Rattle.write.specs.declared.document.ParsedDocument.{ParsedDocument}
 
 none_broken : (rules : List (List ℕ × Option Value)) (v : Value) → length rules ≡ 0 → first_broken rules v ≡ None
 none_broken [] v e = refl
 none_broken (rule ∷ rules) v e = absurd cc
 
-pub no_refusal : (terms : Terms) (id : List ℕ) (h : HistoryContent) (sent : Sent) (rev : Option Revision) → nat_eq (len terms.rules) 0 ≡ true → rule_refusal terms id h sent rev ≡ None
+pub no_refusal : (terms : Terms) (id : List ℕ) (h : HistoryContent) (sent : ParsedDocument) (rev : Option Revision) → nat_eq (len terms.rules) 0 ≡ true → rule_refusal terms id h sent rev ≡ None
 no_refusal terms id h sent rev e = by (is_design_id id)
   where
     none : len terms.rules ≡ 0
     none = grind (arith, nat_tests, e)
 
     v : Value
-    v = argument (document_of id sent) (held_document id h rev) terms.caller terms.name terms.security
+    v = argument (proposed_document id sent) (held_document id h rev) terms.caller terms.name terms.security
 
     by : (b : Bool) → cond b None (update_verdict terms.rules v) ≡ None
     by true = refl
     by false = rw (none_broken (entries terms.rules) v (sym (len-entries terms.rules) ∙ none)) refl
 
 -- nor of a design document
-pub design_unruled : (terms : Terms) (id : List ℕ) (h : HistoryContent) (sent : Sent) (rev : Option Revision) → is_design_id id ≡ true → rule_refusal terms id h sent rev ≡ None
-design_unruled terms id h sent rev design = ap (λ b. cond b None (update_verdict terms.rules (argument (document_of id sent) (held_document id h rev) terms.caller terms.name terms.security))) design
+pub design_unruled : (terms : Terms) (id : List ℕ) (h : HistoryContent) (sent : ParsedDocument) (rev : Option Revision) → is_design_id id ≡ true → rule_refusal terms id h sent rev ≡ None
+design_unruled terms id h sent rev design = ap (λ b. cond b None (update_verdict terms.rules (argument (proposed_document id sent) (held_document id h rev) terms.caller terms.name terms.security))) design

@@ -4,8 +4,8 @@ use Rattle.std.specs.Prelude.{ℕ, Bool, true, false, if◌then◌else◌, List,
 use Rattle.couch_json.specs.Value.{Value}
 use Rattle.tree.specs.Revision.{Revision}
 use Rattle.tree.specs.History.{HistoryContent, with_write}
-use Rattle.store.specs.Database.{DocumentWrite, is_of}
-use Rattle.write.specs.Admission.{edit_outcome, new_revision, replicated_outcome}
+use Rattle.store.specs.Database.{DocumentWrite, is_write_of}
+use Rattle.write.specs.Admission.{edit_outcome, given, new_revision, replicated_outcome}
 use Rattle.write.specs.Document.{id_in, member_text}
 use Rattle.write.specs.Terms.{Terms}
 use Rattle.write.specs.declared.fault.WriteFault.{WriteFault}
@@ -33,16 +33,12 @@ Histories = List ℕ → HistoryContent
 
 -- the histories once a write is in
 abbrev pub with_write_in : Histories → DocumentWrite → Histories
-with_write_in histories w = λ id. if is_of id w then with_write (histories id) w.write else histories id
+with_write_in histories w = λ id. if is_write_of id w then with_write (histories id) w.write else histories id
 
--- the outcome of a document in a bulk; `BadDocument` without an id
-abbrev pub outcome_by_id : Terms → Bool → Histories → Value → Option (List ℕ) → DocumentOutcome
-outcome_by_id terms new_edits histories document None = Err BadDocument
-outcome_by_id terms new_edits histories document (Some id) = document_outcome terms new_edits id (histories id) document
-
--- what becomes of a document
+-- what becomes of a document among others, which has to have an id
 abbrev pub outcome_in : Terms → Bool → Histories → Value → DocumentOutcome
-outcome_in terms new_edits histories document = outcome_by_id terms new_edits histories document (id_in document)
+outcome_in terms new_edits histories document =
+    given BadDocument (id_in document) (λ id. document_outcome terms new_edits id (histories id) document)
 
 -- the histories after an outcome
 abbrev pub after : Histories → DocumentOutcome → Histories

@@ -8,7 +8,7 @@ use Rattle.policy.specs.DesignDocuments.{is_design_body}
 use Rattle.store.specs.Contents.{max_body_depth}
 use Rattle.tree.specs.DocumentId.{is_design_id, is_document_id, is_local_id}
 use Rattle.tree.specs.Revision.{Revision, greatest_number, revision_of, revision_read}
-use Rattle.write.specs.declared.document.Sent.{Sent}
+use Rattle.write.specs.declared.document.ParsedDocument.{ParsedDocument}
 
 -- ---- parts of a value
 
@@ -61,9 +61,9 @@ fits_id id None = true
 fits_id id (Some v) = is_same_text id (text_in v)
 
 -- `_rev`, where it is given, has to be a revision
-abbrev pub revision_in : Option Value → Option (Option Revision)
-revision_in None = Some None
-revision_in (Some v) = option_and_then (λ t. option_map (λ r. Some r) (revision_read t)) (text_in v)
+abbrev pub given_revision : Option Value → Option (Option Revision)
+given_revision None = Some None
+given_revision (Some v) = option_and_then (λ t. option_map (λ r. Some r) (revision_read t)) (text_in v)
 
 -- `_deleted`, where it is given, has to be true or false
 abbrev pub mark_in : Option Value → Option Bool
@@ -76,7 +76,7 @@ mark_in (Some v) = truth_in v
 abbrev pub words_said : Value → Option (Option Revision × Bool)
 words_said document =
     option_and_then (λ rev. option_map (λ deleted. (rev, deleted)) (mark_in (member_of document (codes "_deleted"))))
-    (revision_in (member_of document (codes "_rev")))
+    (given_revision (member_of document (codes "_rev")))
 
 -- the revision and the mark of deletion that a document with this id says
 abbrev pub words_in : List ℕ → Value → Option (Option Revision × Bool)
@@ -87,13 +87,13 @@ abbrev pub body_if : Bool → Value → Option Value
 body_if good body = if good then Some body else None
 
 -- what is left of members without the special ones, where they have no others than a document may have and aren't nested too deep
-abbrev pub body_of : Members → Option Value
-body_of ms =
+abbrev pub remaining_body : Members → Option Value
+remaining_body ms =
     body_if (are_allowed ms && nat_le (depth (object (without_special ms))) max_body_depth) (object (without_special ms))
 
 -- the same of a document, which is an object
 abbrev pub body_in : Value → Option Value
-body_in document = option_and_then (λ ms. body_of ms) (members_in document)
+body_in document = option_and_then (λ ms. remaining_body ms) (members_in document)
 
 -- a design document has the body of one, also where it is deleted
 abbrev pub is_body_for : List ℕ → Value → Bool
@@ -104,13 +104,13 @@ abbrev pub body_for : List ℕ → Value → Option Value
 body_for id document = option_and_then (λ body. body_if (is_body_for id body) body) (body_in document)
 
 -- what a document says, by its parts
-abbrev pub sent_with : Option Revision × Bool → Value → Sent
+abbrev pub sent_with : Option Revision × Bool → Value → ParsedDocument
 sent_with words body = record { rev = words.0; deleted = words.1; body = body }
 
 -- what a document with this id says, or none where it is a bad one: where it is no object, has a special member that no document
 -- has or one of another form, its body, which is what is left without them, nests too deep, or it is a design document and its body
 -- is not that of one
-abbrev pub sent_in : List ℕ → Value → Option Sent
+abbrev pub sent_in : List ℕ → Value → Option ParsedDocument
 sent_in id document = option_and_then (λ words. option_map (λ body. sent_with words body) (body_for id document)) (words_in id document)
 
 -- the id that a document of several gives itself: a text that is the id of a document, and of no local one
@@ -118,12 +118,12 @@ abbrev pub is_bulk_id : List ℕ → Bool
 is_bulk_id id = is_document_id id && not (is_local_id id)
 
 -- a text that is the id of a document in a bulk
-abbrev pub id_if : List ℕ → Option (List ℕ)
-id_if id = if is_bulk_id id then Some id else None
+abbrev pub id_in_bulk : List ℕ → Option (List ℕ)
+id_in_bulk id = if is_bulk_id id then Some id else None
 
 -- the id of a document in a bulk
 abbrev pub id_in : Value → Option (List ℕ)
-id_in document = option_and_then (λ t. id_if t) (member_text (codes "_id") document)
+id_in document = option_and_then (λ t. id_in_bulk t) (member_text (codes "_id") document)
 
 -- ---- the history that a replicated document comes with
 
@@ -142,9 +142,9 @@ without_member name (array vs) = array vs
 without_member name (object ms) = object (without_name name ms)
 
 -- how many items a list has
-abbrev pub count : Items → ℕ
-count no_items = 0
-count (item v vs) = suc (count vs)
+abbrev pub item_count : Items → ℕ
+item_count no_items = 0
+item_count (item v vs) = suc (item_count vs)
 
 -- a revision in front of a path, where both are there
 abbrev pub onto : Option Revision → Option (List Revision) → Option (List Revision)
@@ -152,9 +152,9 @@ onto None path = None
 onto (Some r) path = option_map (λ rs. r ∷ rs) path
 
 -- the revisions of these hashes, whose numbers go down by one and end at 1; none where one of them is no hash
-abbrev pub path_of : Items → Option (List Revision)
-path_of no_items = Some []
-path_of (item v vs) = onto (option_and_then (λ hash. revision_of (suc (count vs)) hash) (text_in v)) (path_of vs)
+abbrev pub path_of_hashes : Items → Option (List Revision)
+path_of_hashes no_items = Some []
+path_of_hashes (item v vs) = onto (option_and_then (λ hash. revision_of (suc (item_count vs)) hash) (text_in v)) (path_of_hashes vs)
 
 -- the number of a revision
 abbrev pub number_if : ℕ → Option ℕ
@@ -166,7 +166,7 @@ start_in v = option_and_then (λ n. number_if n) (option_and_then (λ m. natural
 
 -- the revisions of `ids`, numbered from the oldest, which is the first of all
 abbrev pub ids_in : Value → Option (List Revision)
-ids_in v = option_and_then (λ vs. path_of vs) (option_and_then (λ m. items_in m) (member_of v (codes "ids")))
+ids_in v = option_and_then (λ vs. path_of_hashes vs) (option_and_then (λ m. items_in m) (member_of v (codes "ids")))
 
 -- what a document says of its history: how many revisions it has, and these, newest first
 pub record Ancestry : Type 0 where
@@ -179,8 +179,8 @@ revisions_if good v =
     if good then option_and_then (λ start. option_map (λ path. record { start = start; path = path }) (ids_in v)) (start_in v) else None
 
 -- what `_revisions` says: `start` and `ids`, and nothing else
-abbrev pub revisions_in : Value → Option Ancestry
-revisions_in v = revisions_if (has_only (codes "start" ∷ codes "ids" ∷ []) v) v
+abbrev pub ancestry_given : Value → Option Ancestry
+ancestry_given v = revisions_if (has_only (codes "start" ∷ codes "ids" ∷ []) v) v
 
 -- the newest revision is `start` with the first of `ids`; a document that names its revision too names this one
 abbrev pub is_newest : ℕ → List Revision → Option Revision → Bool
@@ -203,7 +203,7 @@ ancestry_by (Some said) rev = option_and_then (ancestry_if_newest rev) said
 
 -- what `_revisions` says, where it is given
 abbrev pub given_revisions : Value → Option (Option Ancestry)
-given_revisions document = option_map revisions_in (member_of document (codes "_revisions"))
+given_revisions document = option_map ancestry_given (member_of document (codes "_revisions"))
 
 -- The history of a replicated document that names this revision: that of `_revisions`, or the one revision. Without both, or where
 -- they say different things, there is none, and it is a bad document.

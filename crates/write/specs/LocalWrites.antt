@@ -6,6 +6,7 @@ use Rattle.couch_json.specs.Value.{Value, object, Members, no_members, member, m
 use Rattle.store.specs.Contents.{local_revision, max_body_depth}
 use Rattle.store.specs.declared.local_document.LocalDocument.{LocalDocument}
 use Rattle.tree.specs.Revision.{greatest_number}
+use Rattle.write.specs.Admission.{given}
 use Rattle.write.specs.Document.{body_if, fits_id, is_special, without_special}
 use Rattle.write.specs.declared.fault.WriteFault.{WriteFault}
 use Rattle.write.specs.declared.fault.WriteFault.TheVariants.{BadDocument, Conflict, Generation}
@@ -55,19 +56,11 @@ abbrev pub next_number : Option LocalDocument → Option ℕ
 next_number None = Some 1
 next_number (Some stored) = if nat_lt stored.number greatest_number then Some (stored.number + 1) else None
 
--- a local document with its number; `Generation` where none comes next
-abbrev pub local_of_number : Option ℕ → Value → Result LocalDocument WriteFault
-local_of_number None body = Err Generation
-local_of_number (Some number) body = Ok (record { number = number; body = body })
-
--- by whether it names the stored one, where it says so, and by its body
-abbrev pub local_by : Option LocalDocument → Option Bool → Option Value → Result LocalDocument WriteFault
-local_by stored None body = Err BadDocument
-local_by stored (Some names) None = Err BadDocument
-local_by stored (Some names) (Some body) = if names then local_of_number (next_number stored) body else Err Conflict
-
 -- What becomes of a local document with this id, by the one that is stored. It is bad where it is no object, has a special member that
 -- no local document has or one of another form, or what is left without them nests too deep; else it is in conflict, or it has no
 -- further number, or it stands in the place of the stored one.
 abbrev pub local_outcome : Option LocalDocument → List ℕ → Value → Result LocalDocument WriteFault
-local_outcome stored id document = local_by stored (option_map (λ rev. names_stored stored rev) (local_rev id document)) (local_body document)
+local_outcome stored id document =
+    given BadDocument (option_map (λ rev. names_stored stored rev) (local_rev id document)) (λ names.
+    given BadDocument (local_body document) (λ body.
+    if names then given Generation (next_number stored) (λ number. Ok (record { number = number; body = body })) else Err Conflict))

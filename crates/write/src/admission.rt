@@ -1,14 +1,16 @@
 //! What becomes of an edit of a document with a history.
 
 ghost use Rattle.std.specs.Prelude.{◌≡◌, ◌≢◌, ◌<◌, ◌∷◌, [], IfOk, IfErr, None, Some, Ok, Err, length};
+ghost use Rattle.couch_json.specs.Parts.{is_there_and};
 ghost use Rattle.couch_json.specs.View.{view};
-ghost use Rattle.tree.specs.History.{HistoryContent, winner};
+ghost use Rattle.tree.specs.History.{HistoryContent, ancestors_of_parent, is_known, winner};
 ghost use Rattle.store.specs.Writing.{addition_of, written_in};
-ghost use Rattle.write.specs.Admission.{appended_edit, base, design_refusal, edit_after, edit_of, edit_outcome, extended_leaf};
-ghost use Rattle.write.specs.Admission.{is_known_if_any, named_revision, next_edit, revision_after, rule_refusal, unless_denied};
+ghost use Rattle.write.specs.Admission.{design_refusal, edit_of, edit_outcome, given, implicit_parent, named_revision, next_edit};
+ghost use Rattle.write.specs.Admission.{parent_for_edit, revision_after, rule_refusal, unless_denied, write_at};
+ghost use Rattle.write.specs.inner.Following.{edit_following};
 
 use crate::denial::find_rule_refusal;
-use crate::document::{Sent, read_sent};
+use crate::document::{ParsedDocument, read_sent};
 use crate::fault::WriteFault;
 use crate::request_terms::RequestTerms;
 use couch_json::{Got, Json, NoMemory};
@@ -42,7 +44,7 @@ pub(crate) fn read_allowed(
     id: &DocId,
     query: Option<Rev>,
     document: Json,
-) -> Result<Sent, WriteFault>
+) -> Result<ParsedDocument, WriteFault>
     ensures ok { IfOk result (λ sent. edit_of id.now query (view document) ≡ Some sent) }
     ensures allowed { IfOk result (λ sent. design_refusal terms.now id.now ≡ None) }
     ensures fault { IfErr result
@@ -64,12 +66,13 @@ pub(crate) fn admit_sent(
     terms: &mut RequestTerms,
     history: &History,
     id: &DocId,
-    sent: Sent,
+    sent: ParsedDocument,
 ) -> Result<Write, WriteFault>
     ensures ok { IfOk result
-        (λ write. edit_after terms.old id.now history.now sent (base history.now sent.rev) ≡ Ok (written_in history.now (addition_of write))) }
+        (λ write. edit_following terms.old id.now history.now sent ≡ Ok (written_in history.now (addition_of write))) }
     ensures headed { IfOk result (λ write. 0 < length write.path.items) }
-    ensures fault { IfErr result (λ fault. fault ≢ WriteFault.Memory → edit_after terms.old id.now history.now sent (base history.now sent.rev) ≡ Err fault) }
+    ensures fault { IfErr result (λ fault. fault ≢ WriteFault.Memory
+        → edit_following terms.old id.now history.now sent ≡ Err fault) }
     ensures others { IfErr result (λ fault. (fault ≢ WriteFault.BadHistory) × ((cause : _) → fault ≢ WriteFault.Store cause)) }
     ensures terms { terms.new ≡ terms.old }
 {
@@ -81,14 +84,19 @@ pub(crate) fn admit_sent(
 
 /// Reads what an edit says, with the revision that its query names; `None` where the document is a
 /// bad one.
-fn read_edit(alloc: Global, id: &DocId, query: Option<Rev>, document: Json) -> Got<Option<Sent>>
+fn read_edit(
+    alloc: Global,
+    id: &DocId,
+    query: Option<Rev>,
+    document: Json,
+) -> Got<Option<ParsedDocument>>
     ensures { IfOk result (λ sent. sent ≡ edit_of id.now query (view document)) }
 {
     let Some(sent) = read_sent(alloc, id, document)? else {
         return Ok(None);
     };
     match match_revisions(query, sent.rev) {
-        Some(rev) => Ok(Some(Sent { rev, ..sent })),
+        Some(rev) => Ok(Some(ParsedDocument { rev, ..sent })),
         None => Ok(None),
     }
 }
@@ -114,7 +122,7 @@ fn match_revisions(query: Option<Rev>, own: Option<Rev>) -> Option<Option<Rev>>
 
 /// Finds the revision that an edit follows, if any, or `None` where it is a conflict.
 fn find_base(history: &History, rev: Option<Rev>) -> Option<Option<Rev>>
-    ensures { result ≡ base history.now rev }
+    ensures { result ≡ parent_for_edit history.now rev }
 {
     let Some(rev) = rev else {
         return find_extended_leaf(history);
@@ -127,7 +135,7 @@ fn find_base(history: &History, rev: Option<Rev>) -> Option<Option<Rev>>
 
 /// Finds the revision that an edit without one follows.
 fn find_extended_leaf(history: &History) -> Option<Option<Rev>>
-    ensures { result ≡ extended_leaf history.now (winner history.now) }
+    ensures { result ≡ implicit_parent history.now (winner history.now) }
 {
     if history.is_live() {
         None
@@ -142,7 +150,7 @@ pub(crate) fn write_next(
     terms: &mut RequestTerms,
     history: &History,
     id: &DocId,
-    sent: Sent,
+    sent: ParsedDocument,
     parent: Option<Rev>,
 ) -> Result<Write, WriteFault>
     ensures ok { IfOk result (λ write. next_edit terms.old id.now history.now sent parent ≡ Ok (written_in history.now (addition_of write))) }
@@ -166,7 +174,7 @@ pub(crate) fn allow_revision(
     terms: &mut RequestTerms,
     history: &History,
     id: &DocId,
-    sent: &Sent,
+    sent: &ParsedDocument,
     parent: Option<Rev>,
     next: Option<Rev>,
 ) -> Result<Rev, WriteFault>
@@ -175,7 +183,8 @@ pub(crate) fn allow_revision(
     ensures fault { IfErr result
         (λ fault. fault ≢ WriteFault.Memory → (h : HistoryContent)
         → rule_refusal terms.old id.now h sent.now parent ≡ rule_refusal terms.old id.now history.now sent.now parent
-        → unless_denied (rule_refusal terms.old id.now h sent.now parent) (appended_edit id.now h sent.now parent next) ≡ Err fault) }
+        → unless_denied (rule_refusal terms.old id.now h sent.now parent)
+        (given WriteFault.Generation next (λ rev. Ok (write_at id.now (rev ∷ ancestors_of_parent h parent) sent.now))) ≡ Err fault) }
     ensures others { IfErr result (λ fault. (fault ≢ WriteFault.BadHistory) × ((cause : _) → fault ≢ WriteFault.Store cause)) }
     ensures terms { terms.new ≡ terms.old }
 {
@@ -211,7 +220,11 @@ pub(crate) fn make_write(
 }
 
 /// Makes the next revision after this one, or a first one; `None` after the greatest number.
-pub(crate) fn make_revision(alloc: Global, sent: &Sent, parent: Option<Rev>) -> Got<Option<Rev>>
+pub(crate) fn make_revision(
+    alloc: Global,
+    sent: &ParsedDocument,
+    parent: Option<Rev>,
+) -> Got<Option<Rev>>
     ensures { IfOk result (λ next. next ≡ revision_after sent.now parent) }
 {
     match next_rev(alloc, parent.as_ref(), sent.deleted, sent.body.json()) {
@@ -223,7 +236,7 @@ pub(crate) fn make_revision(alloc: Global, sent: &Sent, parent: Option<Rev>) -> 
 
 /// Tells whether the history knows the revision, if there is one.
 fn knows(history: &History, rev: Option<Rev>) -> bool
-    ensures { result ≡ is_known_if_any history.now rev }
+    ensures { result ≡ is_there_and (is_known history.now) rev }
 {
     match rev {
         Some(rev) => history.knows(&rev),

@@ -7,7 +7,7 @@ ghost use Rattle.couch_json.specs.View.{view, items_view};
 ghost use Rattle.tree.specs.Revision.{Revision, revision_of};
 ghost use Rattle.write.specs.inner.AncestryRead.{ancestry_of};
 ghost use Rattle.write.specs.Document.{ancestry_alone, ancestry_by, ancestry_if_newest, given_revisions, is_newest, natural};
-ghost use Rattle.write.specs.Document.{number_if, path_of, revisions_in, sent_in, start_in, without_member};
+ghost use Rattle.write.specs.Document.{number_if, path_of_hashes, ancestry_given, sent_in, start_in, without_member};
 
 use couch_json::{Got, Json};
 use std::alloc::Global;
@@ -105,7 +105,7 @@ fn is_newest(start: u32, path: &[Rev], rev: Option<Rev>) -> bool
 
 /// Reads what `_revisions` says; `None` where it is not of its form.
 fn read_revisions(alloc: Global, value: Json) -> Got<Option<Ancestry>>
-    ensures { IfOk result (λ said. option_map ancestry_of said ≡ revisions_in (view value)) }
+    ensures { IfOk result (λ said. option_map ancestry_of said ≡ ancestry_given (view value)) }
 {
     if !value.has_only(&["start", "ids"]) {
         return Ok(None);
@@ -156,7 +156,7 @@ fn take_ids(value: Json) -> Option<Vec<Json>>
 /// Reads the revisions of these hashes, newest first and down to number 1. Each hash is dropped before
 /// the next one is read.
 fn read_path(alloc: Global, ids: Vec<Json>) -> Got<Option<Vec<Rev>>>
-    ensures { IfOk result (λ path. option_map (λ revs. revs.items) path ≡ path_of (items_view ids.items)) }
+    ensures { IfOk result (λ path. option_map (λ revs. revs.items) path ≡ path_of_hashes (items_view ids.items)) }
 {
     let mut number = ids.len();
     let mut path = Vec::with_capacity(alloc, number)?;

@@ -21,7 +21,7 @@ ghost use Rattle.write.specs.Terms.{terms_in};
 use crate::admission::admit_edit;
 use crate::draft::{Draft, Request, read_draft};
 use crate::fault::WriteFault;
-use crate::histories::{load, put_history, take_history, take_in};
+use crate::histories::{apply_write, load, put_history, take_history};
 use crate::planned::{Changes, DocumentResult, Outcome, Planned};
 use crate::planning::{tell_outcome, tell_result};
 use crate::repeats::{mark_repeats, take_mark};
@@ -127,7 +127,7 @@ fn judge_one(
     ensures terms { terms.new ≡ terms.old }
 {
     let Draft { label, id, request } = draft;
-    match settle(alloc, terms, histories, again, id, request) {
+    match judge_and_record(alloc, terms, histories, again, id, request) {
         Ok(write) => {
             let outcome = tell_outcome(&write);
             append(writes, write)?;
@@ -170,7 +170,7 @@ fn append(writes: &mut Vec<Write>, write: Option<Write>) -> Got<()>
 
 /// Judges a document by its history. Where its id comes again this takes in the write, else it is
 /// dropped.
-fn settle(
+fn judge_and_record(
     alloc: Global,
     terms: &mut RequestTerms,
     histories: &mut BTreeMap<DocId, PackedHistory>,
@@ -246,7 +246,7 @@ fn judge_in(
 {
     let write = judge(alloc, terms, history, id, request)?;
     if let Some(write) = &write {
-        take_in(history, write)?;
+        apply_write(history, write)?;
     }
     Ok(write)
 }

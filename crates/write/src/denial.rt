@@ -9,7 +9,7 @@ ghost use Rattle.policy.specs.declared.action.Action.TheVariants.{WriteDesign};
 ghost use Rattle.tree.specs.DocumentId.{is_design_id};
 ghost use Rattle.write.specs.Admission.{ancestors, held_document, nearest_held, rule_refusal};
 
-use crate::document::Sent;
+use crate::document::ParsedDocument;
 use crate::request_terms::RequestTerms;
 use auth::Caller;
 use couch_json::{Got, Json};
@@ -36,7 +36,7 @@ pub(crate) fn find_rule_refusal(
     terms: &mut RequestTerms,
     history: &History,
     id: &DocId,
-    sent: &Sent,
+    sent: &ParsedDocument,
     rev: Option<Rev>,
 ) -> Got<Option<Rule>>
     ensures answer { IfOk result (λ rule. rule ≡ rule_refusal terms.old id.now history.now sent.now rev) }

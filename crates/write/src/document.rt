@@ -2,8 +2,8 @@
 
 ghost use Rattle.std.specs.Prelude.{◌≡◌, IfOk, option_map, string_bytes};
 ghost use Rattle.couch_json.specs.View.{view, members_view};
-ghost use Rattle.write.specs.Document.{are_allowed, body_for, body_in, fits_id, id_if, id_in, is_allowed, is_body_for, is_document_member};
-ghost use Rattle.write.specs.Document.{is_special, mark_in, member_text, revision_in, sent_in, without_special, words_in};
+ghost use Rattle.write.specs.Document.{are_allowed, body_for, body_in, fits_id, id_in_bulk, id_in, is_allowed, is_body_for, is_document_member};
+ghost use Rattle.write.specs.Document.{is_special, mark_in, member_text, given_revision, sent_in, without_special, words_in};
 
 use couch_json::{Got, Json, NameMap, NoMemory};
 use policy::check_design;
@@ -15,7 +15,7 @@ pub(crate) const MAX_BODY_DEPTH: usize = 100;
 
 /// What a document says besides its id and its history.
 #[derive(Drop)]
-pub(crate) struct Sent {
+pub(crate) struct ParsedDocument {
     /// The revision that it names.
     pub(crate) rev: Option<Rev>,
     /// Whether it is deleted.
@@ -25,7 +25,7 @@ pub(crate) struct Sent {
 }
 
 /// Reads what a document with this id says; `None` where it is a bad one.
-pub(crate) fn read_sent(alloc: Global, id: &DocId, document: Json) -> Got<Option<Sent>>
+pub(crate) fn read_sent(alloc: Global, id: &DocId, document: Json) -> Got<Option<ParsedDocument>>
     ensures { IfOk result (λ sent. sent ≡ sent_in id.now (view document)) }
 {
     let Some((rev, deleted)) = read_words(id, &document) else {
@@ -35,7 +35,7 @@ pub(crate) fn read_sent(alloc: Global, id: &DocId, document: Json) -> Got<Option
         return Ok(None);
     };
     let body = Body::new(body);
-    Ok(Some(Sent { rev, deleted, body }))
+    Ok(Some(ParsedDocument { rev, deleted, body }))
 }
 
 /// Reads the revision and the mark of deletion that a document says; `None` where its id is another
@@ -161,7 +161,7 @@ pub(crate) fn fits_id(id: &DocId, value: Option<&Json>) -> bool
 
 /// Parses the revision that `_rev` gives, if it is given; `None` where it gives none.
 fn parse_revision(value: Option<&Json>) -> Option<Option<Rev>>
-    ensures { result ≡ revision_in (option_map (λ v. view v.now) value.entry) }
+    ensures { result ≡ given_revision (option_map (λ v. view v.now) value.entry) }
 {
     let Some(value) = value else {
         return Some(None);
@@ -193,7 +193,7 @@ pub(crate) fn read_id(alloc: Global, document: &Json) -> Got<Option<DocId>>
 
 /// Parses the id of a document that is no local one.
 fn parse_id(alloc: Global, text: &str) -> Got<Option<DocId>>
-    ensures { IfOk result (λ id. id ≡ id_if text.now) }
+    ensures { IfOk result (λ id. id ≡ id_in_bulk text.now) }
 {
     let id = match DocId::new(alloc, text) {
         Ok(id) => id,

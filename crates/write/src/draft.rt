@@ -2,7 +2,8 @@
 
 ghost use Rattle.std.specs.Prelude.{◌≡◌, IfOk, codes, option_map, string_bytes};
 ghost use Rattle.couch_json.specs.View.{view};
-ghost use Rattle.write.specs.Bulk.{Histories, outcome_by_id, outcome_in};
+ghost use Rattle.write.specs.Admission.{given};
+ghost use Rattle.write.specs.Bulk.{Histories, document_outcome, outcome_in};
 ghost use Rattle.write.specs.Document.{id_in, member_text};
 ghost use Rattle.write.specs.inner.Drafts.{outcome_asked};
 
@@ -67,7 +68,8 @@ fn read_request(
     new_edits: bool,
     document: Json,
 ) -> Got<Request>
-    ensures { IfOk result (λ request. (histories : Histories) → outcome_by_id terms.now new_edits histories (view document) id.now
+    ensures { IfOk result (λ request. (histories : Histories) → given WriteFault.BadDocument id.now
+        (λ own. document_outcome terms.now new_edits own (histories own) (view document))
         ≡ outcome_asked terms.now histories request id.now) }
 {
     let Some(id) = id else {

@@ -2,22 +2,23 @@
 
 ghost use Rattle.std.specs.Prelude.{◌≡◌, ◌≢◌, ◌<◌, IfOk, IfErr, None, Some, Ok, Err, is_some, length, true};
 ghost use Rattle.std.specs.FinMap as map;
+ghost use Rattle.couch_json.specs.Parts.{is_there_and};
 ghost use Rattle.couch_json.specs.View.{view};
-ghost use Rattle.tree.specs.History.{HistoryContent};
+ghost use Rattle.tree.specs.History.{HistoryContent, is_known};
 ghost use Rattle.tree.specs.Outline.{marked_winner};
 ghost use Rattle.store.specs.Calls.{OnlyReads};
 ghost use Rattle.store.specs.Contents.{IfThere};
 ghost use Rattle.store.specs.Database.{history_at};
 ghost use Rattle.store.specs.Writing.{addition_of, written_in};
-ghost use Rattle.write.specs.Admission.{base, edit_after, edit_outcome, is_known_if_any, next_edit, rule_refusal};
-ghost use Rattle.write.specs.inner.Following.{IsFollowed};
+ghost use Rattle.write.specs.Admission.{edit_outcome, next_edit, parent_for_edit, rule_refusal};
+ghost use Rattle.write.specs.inner.Following.{IsFollowed, edit_following};
 ghost use Rattle.write.specs.Refusing.{IsDecided, IsOfStoreOrMemory, IsOwn, Refuses};
-ghost use Rattle.write.specs.declared.document.Sent.{Sent};
+ghost use Rattle.write.specs.declared.document.ParsedDocument.{ParsedDocument};
 
 use crate::admission::{
     admit_sent, allow_revision, make_revision, make_write, read_allowed, write_next,
 };
-use crate::document::Sent;
+use crate::document::ParsedDocument;
 use crate::fault::WriteFault;
 use crate::request_terms::RequestTerms;
 use couch_json::Json;
@@ -34,8 +35,8 @@ pub(crate) enum Followed {
     Leaf(Rev),
     /// There is none that it may follow.
     Conflict,
-    /// The winner doesn't tell.
-    Open,
+    /// The winner alone doesn't decide: the history is needed.
+    NeedsHistory,
 }
 
 /// Judges an edit of a stored document: its write, or why it is refused.
@@ -63,7 +64,7 @@ pub(crate) fn judge_edit<S: Store>(
 
 /// Finds what an edit that names this revision, or none, follows, as far as the winner tells.
 fn find_followed(winner: Option<MarkedRev>, rev: Option<Rev>) -> Followed
-    ensures { (h : HistoryContent) → winner ≡ marked_winner h → IsFollowed h (base h rev) result }
+    ensures { (h : HistoryContent) → winner ≡ marked_winner h → IsFollowed h (parent_for_edit h rev) result }
 {
     match rev {
         None => follow_winner(winner),
@@ -73,7 +74,7 @@ fn find_followed(winner: Option<MarkedRev>, rev: Option<Rev>) -> Followed
 
 /// Finds what an edit that names no revision follows.
 fn follow_winner(winner: Option<MarkedRev>) -> Followed
-    ensures { (h : HistoryContent) → winner ≡ marked_winner h → IsFollowed h (base h None) result }
+    ensures { (h : HistoryContent) → winner ≡ marked_winner h → IsFollowed h (parent_for_edit h None) result }
 {
     match winner {
         None => Followed::New,
@@ -89,7 +90,7 @@ fn follow_winner(winner: Option<MarkedRev>) -> Followed
 
 /// Finds what an edit that names this revision follows.
 fn follow_named(winner: Option<MarkedRev>, rev: Rev) -> Followed
-    ensures { (h : HistoryContent) → winner ≡ marked_winner h → IsFollowed h (base h (Some rev)) result }
+    ensures { (h : HistoryContent) → winner ≡ marked_winner h → IsFollowed h (parent_for_edit h (Some rev)) result }
 {
     match winner {
         None => Followed::Conflict,
@@ -97,7 +98,7 @@ fn follow_named(winner: Option<MarkedRev>, rev: Rev) -> Followed
             if winner.rev.cmp(&rev).is_eq() {
                 Followed::Leaf(rev)
             } else {
-                Followed::Open
+                Followed::NeedsHistory
             }
         }
     }
@@ -108,7 +109,7 @@ fn judge_new(
     alloc: Global,
     terms: &mut RequestTerms,
     id: &DocId,
-    sent: Sent,
+    sent: ParsedDocument,
 ) -> Result<Write, WriteFault>
     ensures ok { IfOk result (λ write. next_edit terms.old id.now map.empty sent None ≡ Ok (written_in map.empty (addition_of write))) }
     ensures headed { IfOk result (λ write. 0 < length write.path.items) }
@@ -127,7 +128,7 @@ fn is_known<S: Store>(
     rev: Option<Rev>,
 ) -> Result<bool, WriteFault>
     ensures known { S.is_honest store.new
-        → IfOk result (λ known. IfThere (map.get (S.contents store.old) db.now) (λ d. known ≡ is_known_if_any (history_at d id.now) rev)) }
+        → IfOk result (λ known. IfThere (map.get (S.contents store.old) db.now) (λ d. known ≡ is_there_and (is_known (history_at d id.now)) rev)) }
     ensures only { IfErr result IsOfStoreOrMemory }
     ensures passed { IfErr result (Refuses S.Store store.old store.new (map.get (S.contents store.old) db.now ≡ None) ⊥) }
     ensures reads { OnlyReads S.Store store.old store.new }
@@ -148,7 +149,7 @@ fn read_followed<S: Store>(
     terms: &RequestTerms,
     rev: Option<Rev>,
 ) -> Result<History, WriteFault>
-    ensures ruled { S.is_honest store.new → IfOk result (λ history. IfThere (map.get (S.contents store.old) db.now) (λ d. (sent : Sent)
+    ensures ruled { S.is_honest store.new → IfOk result (λ history. IfThere (map.get (S.contents store.old) db.now) (λ d. (sent : ParsedDocument)
         → rule_refusal terms.now id.now (history_at d id.now) sent rev ≡ rule_refusal terms.now id.now history sent rev)) }
     ensures only { IfErr result IsOfStoreOrMemory }
     ensures passed { IfErr result (Refuses S.Store store.old store.new (map.get (S.contents store.old) db.now ≡ None) ⊥) }
@@ -173,7 +174,7 @@ fn judge_next<S: Store>(
     db: &DbName,
     terms: &mut RequestTerms,
     id: &DocId,
-    sent: Sent,
+    sent: ParsedDocument,
     parent: Option<Rev>,
 ) -> Result<Write, WriteFault>
     ensures ok { S.is_honest store.new → IfOk result (λ write. IfThere (map.get (S.contents store.old) db.now) (λ d.
@@ -201,14 +202,13 @@ fn judge_whole<S: Store>(
     db: &DbName,
     terms: &mut RequestTerms,
     id: &DocId,
-    sent: Sent,
+    sent: ParsedDocument,
 ) -> Result<Write, WriteFault>
     ensures ok { S.is_honest store.new → IfOk result (λ write. IfThere (map.get (S.contents store.old) db.now) (λ d.
-        edit_after terms.old id.now (history_at d id.now) sent (base (history_at d id.now) sent.rev) ≡ Ok
-        (written_in (history_at d id.now) (addition_of write)))) }
+        edit_following terms.old id.now (history_at d id.now) sent ≡ Ok (written_in (history_at d id.now) (addition_of write)))) }
     ensures refused { S.is_honest store.new → IfErr result (λ fault. IsOwn fault
         → IfThere (map.get (S.contents store.old) db.now)
-        (λ d. edit_after terms.old id.now (history_at d id.now) sent (base (history_at d id.now) sent.rev) ≡ Err fault)) }
+        (λ d. edit_following terms.old id.now (history_at d id.now) sent ≡ Err fault)) }
     ensures headed { IfOk result (λ write. 0 < length write.path.items) }
     ensures edits { IfErr result (λ fault. fault ≢ WriteFault.BadHistory) }
     ensures passed { IfErr result (Refuses S.Store store.old store.new (map.get (S.contents store.old) db.now ≡ None) ⊥) }
@@ -226,14 +226,13 @@ fn judge_sent<S: Store>(
     db: &DbName,
     terms: &mut RequestTerms,
     id: &DocId,
-    sent: Sent,
+    sent: ParsedDocument,
 ) -> Result<Write, WriteFault>
     ensures ok { S.is_honest store.new → IfOk result (λ write. IfThere (map.get (S.contents store.old) db.now) (λ d.
-        edit_after terms.old id.now (history_at d id.now) sent (base (history_at d id.now) sent.rev) ≡ Ok
-        (written_in (history_at d id.now) (addition_of write)))) }
+        edit_following terms.old id.now (history_at d id.now) sent ≡ Ok (written_in (history_at d id.now) (addition_of write)))) }
     ensures refused { S.is_honest store.new → IfErr result (λ fault. IsOwn fault
         → IfThere (map.get (S.contents store.old) db.now)
-        (λ d. edit_after terms.old id.now (history_at d id.now) sent (base (history_at d id.now) sent.rev) ≡ Err fault)) }
+        (λ d. edit_following terms.old id.now (history_at d id.now) sent ≡ Err fault)) }
     ensures headed { IfOk result (λ write. 0 < length write.path.items) }
     ensures edits { IfErr result (λ fault. fault ≢ WriteFault.BadHistory) }
     ensures passed { IfErr result (Refuses S.Store store.old store.new (map.get (S.contents store.old) db.now ≡ None) ⊥) }
@@ -244,6 +243,6 @@ fn judge_sent<S: Store>(
         Followed::New => judge_new(alloc, terms, id, sent),
         Followed::Leaf(parent) => judge_next(alloc, store, db, terms, id, sent, Some(parent)),
         Followed::Conflict => Err(WriteFault::Conflict),
-        Followed::Open => judge_whole(alloc, store, db, terms, id, sent),
+        Followed::NeedsHistory => judge_whole(alloc, store, db, terms, id, sent),
     }
 }

@@ -76,7 +76,7 @@ pub(crate) fn put_history(
 }
 
 /// Takes a write into the history of its document.
-pub(crate) fn take_in(history: &mut History, write: &Write) -> Got<()>
+pub(crate) fn apply_write(history: &mut History, write: &Write) -> Got<()>
     ensures ok { OnOk result (history.new ≡ with_write history.old (written_in history.old (addition_of write.now)).write) }
     ensures err { OnErr result (history.new ≡ history.old) }
 {

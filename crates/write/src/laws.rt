@@ -2,7 +2,7 @@
 
 ghost use Rattle.std.specs.Prelude.{◌≡◌, ◌↔◌, ◌⊎◌, ◌∷◌, ◌++◌, Bool, false, true, List, ℕ, Ok, Err, Option, Some, None};
 ghost use Rattle.couch_json.specs.Value.{Value};
-ghost use Rattle.tree.specs.History.{is_known, placement};
+ghost use Rattle.tree.specs.History.{ancestors_of_parent, is_known, placement};
 ghost use Rattle.tree.specs.NextRevision.{next_revision};
 ghost use Rattle.tree.specs.Revision.{Revision};
 ghost use Rattle.policy.specs.declared.rule.Rule.{Rule};
@@ -10,8 +10,8 @@ ghost use Rattle.tree.specs.declared.placement.Placed.{Placed};
 ghost use Rattle.tree.specs.declared.placement.TreeFault.{TreeFault};
 ghost use Rattle.store.specs.Contents.{AreAcceptable, IsAcceptable};
 ghost use Rattle.store.specs.Database.{Database, DocumentWrite, history_at, with_all};
-ghost use Rattle.store.specs.Lawful.{IsLawful};
-ghost use Rattle.write.specs.Admission.{admission, base, edit_path, replication, revision_after, unnamed_deletion, write_at};
+ghost use Rattle.store.specs.Lawful.{IsLawfulDatabase};
+ghost use Rattle.write.specs.Admission.{admission, parent_for_edit, replication, revision_after, unnamed_deletion, write_at};
 ghost use Rattle.write.specs.Bulk.{Histories, DocumentOutcome, outcome_in, outcomes, writes_in};
 ghost use Rattle.write.specs.Denials.{EditHasLeave, EditIsDueTo, IsDesignDenial, ReplicationHasLeave, ReplicationIsDueTo};
 ghost use Rattle.write.specs.Document.{id_in};
@@ -38,24 +38,24 @@ pub fn outcomes_are_written()
 /// needed, the tree takes the write in if and only if its new revision is not known, else it knows the
 /// write or one with another parent. So an edit is judged without its path.
 pub fn edits_fit()
-    ensures added { (db : Database) (id : List ℕ) (named parent : Option Revision) (deleted : Bool) (body : Value) → IsLawful db
-        → base (history_at db id) named ≡ Some parent
-        → (placement (history_at db id) (edit_path (history_at db id) parent (next_revision parent deleted body)) ≡ Ok Placed.Added)
+    ensures added { (db : Database) (id : List ℕ) (named parent : Option Revision) (deleted : Bool) (body : Value) → IsLawfulDatabase db
+        → parent_for_edit (history_at db id) named ≡ Some parent
+        → (placement (history_at db id) (next_revision parent deleted body ∷ ancestors_of_parent (history_at db id) parent) ≡ Ok Placed.Added)
         ↔ (is_known (history_at db id) (next_revision parent deleted body) ≡ false) }
-    ensures known { (db : Database) (id : List ℕ) (named parent : Option Revision) (deleted : Bool) (body : Value) → IsLawful db
-        → base (history_at db id) named ≡ Some parent → is_known (history_at db id) (next_revision parent deleted body) ≡ true
-        → (placement (history_at db id) (edit_path (history_at db id) parent (next_revision parent deleted body)) ≡ Ok Placed.Known)
-        ⊎ (placement (history_at db id) (edit_path (history_at db id) parent (next_revision parent deleted body)) ≡ Err TreeFault.OtherParent) }
+    ensures known { (db : Database) (id : List ℕ) (named parent : Option Revision) (deleted : Bool) (body : Value) → IsLawfulDatabase db
+        → parent_for_edit (history_at db id) named ≡ Some parent → is_known (history_at db id) (next_revision parent deleted body) ≡ true
+        → (placement (history_at db id) (next_revision parent deleted body ∷ ancestors_of_parent (history_at db id) parent) ≡ Ok Placed.Known)
+        ⊎ (placement (history_at db id) (next_revision parent deleted body ∷ ancestors_of_parent (history_at db id) parent) ≡ Err TreeFault.OtherParent) }
 {}
 
 /// In a lawful database what is planned may be made: the write of an edit, that of a replicated
 /// document, and those of several documents, one after another.
 pub fn plans_are_acceptable()
-    ensures edited { (terms : Terms) (db : Database) (id : List ℕ) (query : Option Revision) (document : Value) (w : DocumentWrite) → IsLawful db
+    ensures edited { (terms : Terms) (db : Database) (id : List ℕ) (query : Option Revision) (document : Value) (w : DocumentWrite) → IsLawfulDatabase db
         → admission terms db id query document ≡ Ok w → IsAcceptable db w }
     ensures replicated { (terms : Terms) (db : Database) (id : List ℕ) (document : Value) (w : DocumentWrite)
         → replication terms db id document ≡ Ok (Some w) → IsAcceptable db w }
-    ensures together { (terms : Terms) (new_edits : Bool) (db : Database) (documents : List Value) → IsLawful db
+    ensures together { (terms : Terms) (new_edits : Bool) (db : Database) (documents : List Value) → IsLawfulDatabase db
         → AreAcceptable db (writes_in (outcomes terms new_edits (history_at db) documents)) }
 {}
 
@@ -89,7 +89,7 @@ pub fn appended_writes_have_leave()
 pub fn writes_with_leave_are_appended()
     ensures edited { (terms : Terms) (db : Database) (id : List ℕ) (query : Option Revision) (document : Value) (rev : Revision)
         → (leave : EditHasLeave terms id (history_at db id) query document) → revision_after leave.sent leave.parent ≡ Some rev
-        → admission terms db id query document ≡ Ok (write_at id (edit_path (history_at db id) leave.parent rev) leave.sent) }
+        → admission terms db id query document ≡ Ok (write_at id (rev ∷ ancestors_of_parent (history_at db id) leave.parent) leave.sent) }
     ensures ended { (terms : Terms) (db : Database) (id : List ℕ) (query : Option Revision) (document : Value)
         → (leave : EditHasLeave terms id (history_at db id) query document) → revision_after leave.sent leave.parent ≡ None
         → admission terms db id query document ≡ Err Generation }
@@ -98,7 +98,7 @@ pub fn writes_with_leave_are_appended()
         → replication terms db id document ≡ Ok (Some (write_at id leave.ancestry.path leave.sent)) }
     ensures edited_together { (terms : Terms) (histories : Histories) (id : List ℕ) (document : Value) (rev : Revision) → id_in document ≡ Some id
         → (leave : EditHasLeave terms id (histories id) None document) → revision_after leave.sent leave.parent ≡ Some rev
-        → outcome_in terms true histories document ≡ Ok (Some (write_at id (edit_path (histories id) leave.parent rev) leave.sent)) }
+        → outcome_in terms true histories document ≡ Ok (Some (write_at id (rev ∷ ancestors_of_parent (histories id) leave.parent) leave.sent)) }
     ensures replicated_together { (terms : Terms) (histories : Histories) (id : List ℕ) (document : Value) → id_in document ≡ Some id
         → (leave : ReplicationHasLeave terms id (histories id) document)
         → outcome_in terms false histories document ≡ Ok (Some (write_at id leave.ancestry.path leave.sent)) }

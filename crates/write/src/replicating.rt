@@ -18,7 +18,7 @@ ghost use Rattle.write.specs.Terms.{terms_in};
 
 use crate::ancestry::{Ancestry, find_ancestry, take_given};
 use crate::denial::{find_nearest_held, find_rule_refusal};
-use crate::document::{Sent, read_sent};
+use crate::document::{ParsedDocument, read_sent};
 use crate::fault::WriteFault;
 use crate::planned::Planned;
 use crate::planning::{plan_alone, read_label};
@@ -33,7 +33,7 @@ use tree::{DocId, History, Placed, TreeFault};
 #[derive(Drop)]
 pub(crate) struct Replica {
     /// What it says besides its history.
-    pub(crate) sent: Sent,
+    pub(crate) sent: ParsedDocument,
     /// The history that it comes with.
     pub(crate) ancestry: Ancestry,
 }
@@ -89,7 +89,7 @@ pub(crate) fn read_replica(
     document: Json,
 ) -> Result<Replica, WriteFault>
     ensures ok { IfOk result (λ replica. (h : HistoryContent) → replicated_outcome terms.now id.now h (view document)
-        ≡ placement_outcome terms.now id.now h replica.sent replica.ancestry.path.items (ancestry_placement h (ancestry_of replica.ancestry))) }
+        ≡ placement_outcome terms.now id.now h replica.sent (ancestry_of replica.ancestry)) }
     ensures fault { IfErr result
         (λ fault. fault ≢ WriteFault.Memory → (h : HistoryContent) → replicated_outcome terms.now id.now h (view document) ≡ Err fault) }
     ensures others { IfErr result (λ fault. (fault ≢ WriteFault.Conflict) × (fault ≢ WriteFault.Generation) × ((cause : _) → fault ≢ WriteFault.Store cause)) }
@@ -118,13 +118,11 @@ pub(crate) fn place(
     replica: Replica,
 ) -> Result<Option<Write>, WriteFault>
     ensures ok { IfOk result
-        (λ write. placement_outcome terms.old id.now history.now replica.sent replica.ancestry.path.items
-        (ancestry_placement history.now (ancestry_of replica.ancestry))
+        (λ write. placement_outcome terms.old id.now history.now replica.sent (ancestry_of replica.ancestry)
         ≡ Ok (option_map (λ w. written_in history.now (addition_of w)) write)) }
     ensures headed { IfOk result (λ write. IfSome write (λ w. 0 < length w.path.items)) }
     ensures fault { IfErr result (λ fault. fault ≢ WriteFault.Memory
-        → placement_outcome terms.old id.now history.now replica.sent replica.ancestry.path.items
-        (ancestry_placement history.now (ancestry_of replica.ancestry)) ≡ Err fault) }
+        → placement_outcome terms.old id.now history.now replica.sent (ancestry_of replica.ancestry) ≡ Err fault) }
     ensures others { IfErr result (λ fault. (fault ≢ WriteFault.Conflict) × (fault ≢ WriteFault.Generation) × ((cause : _) → fault ≢ WriteFault.Store cause)) }
     ensures terms { terms.new ≡ terms.old }
 {

@@ -6,14 +6,14 @@ use Rattle.std.specs.Ordering.{int_eq}
 use Rattle.sqlite_value.specs.declared.value.Value.TheVariants.{Int}
 use Rattle.sqlite_value.specs.Order.{Row, bytes, column}
 use Rattle.sqlite_trees.specs.Tree.{Trees}
-use Rattle.tables.specs.Layout.{database_at, IsRevisionRow}
-use Rattle.tables.specs.Rows.{id_of, is_in, whole_in}
+use Rattle.tables.specs.Layout.{database_row_at, IsRevisionRow}
+use Rattle.tables.specs.Rows.{id_of, is_row_of_database, whole_in_cell}
 use Rattle.tables.specs.Schema.{dbs_tree, revs_tree}
 use Rattle.file_check.specs.Indexes.{AreChecked}
 use Rattle.file_check.specs.declared.finding.Finding.{Finding}
 use Rattle.file_check.specs.declared.layout.checked.Checked.{Checked}
 use Rattle.file_check.specs.declared.layout.checked.Checked.TheVariants.{Databases, Documents, Revisions, Locals}
-use Rattle.file_check.specs.Tables.{HasDatabaseCells, HasDocumentCells, HasLocalCells, HasRevisionCells, IsSoundRow, table_of, tree_of}
+use Rattle.file_check.specs.Tables.{HasDatabaseCells, HasDocumentCells, HasLocalCells, HasRevisionCells, IsSoundRow, table_of_finding, tree_of}
 
 -- the cells of a row of this table are of the kinds of its columns
 abbrev pub HasCells : Checked → Row → Type 0
@@ -42,7 +42,7 @@ pub record IsThisVersion (rows : List Row) : Type 0 where
 
 -- nothing is found, and each row of the table is sound; or a row is found that is not
 abbrev pub AreRowsChecked : Checked → Trees → Option Finding → Type 0
-AreRowsChecked of trees found = AreChecked (table_of of) (trees (tree_of of)) (IsSoundRow of trees) found
+AreRowsChecked of trees found = AreChecked (table_of_finding of) (trees (tree_of of)) (IsSoundRow of trees) found
 
 -- ---- rows by their keys
 
@@ -53,15 +53,15 @@ shown_length r = column r 4 ∷ []
 -- the sequence that the first row shows, if there is one
 abbrev pub length_shown : List Row → Option ℤ
 length_shown [] = None
-length_shown (s ∷ more) = Some (whole_in (column s 0))
+length_shown (s ∷ more) = Some (whole_in_cell (column s 0))
 
 -- the sequence of the database of this number, as it is stored
 abbrev pub length_at : Trees → ℤ → Option ℤ
-length_at trees db = option_map (λ d. whole_in (column d 4)) (database_at (trees dbs_tree) db)
+length_at trees db = option_map (λ d. whole_in_cell (column d 4)) (database_row_at (trees dbs_tree) db)
 
 -- the row of a revision of the document of this id, as it is stored
 abbrev pub is_stored : ℤ → List ℕ → ℤ → List ℕ → Row → Bool
-is_stored db id n hash r = is_in db r && (bytes_eq (id_of r) id && (int_eq (whole_in (column r 3)) n && bytes_eq (bytes (column r 4)) hash))
+is_stored db id n hash r = is_row_of_database db r && (bytes_eq (id_of r) id && (int_eq (whole_in_cell (column r 3)) n && bytes_eq (bytes (column r 4)) hash))
 
 -- what a query of one such row shows: its number
 abbrev pub shown_stored : Row → Row
@@ -69,7 +69,7 @@ shown_stored r = column r 3 ∷ []
 
 -- the same, whatever the hash is
 abbrev pub is_numbered : ℤ → List ℕ → ℤ → Row → Bool
-is_numbered db id n r = is_in db r && (bytes_eq (id_of r) id && int_eq (whole_in (column r 3)) n)
+is_numbered db id n r = is_row_of_database db r && (bytes_eq (id_of r) id && int_eq (whole_in_cell (column r 3)) n)
 
 -- what a query of the revisions of one number shows of a row: its hash
 abbrev pub shown_numbered : Row → Row

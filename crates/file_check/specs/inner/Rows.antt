@@ -10,7 +10,7 @@ use Rattle.tree.specs.Revision.{Revision, is_revision, text_of}
 use Rattle.tree.specs.declared.entry.Held.{Held}
 use Rattle.sqlite_value.specs.declared.value.Value.TheVariants.{Int, Null, Text}
 use Rattle.sqlite_value.specs.Order.{Row, bytes, column}
-use Rattle.tables.specs.Rows.{body_cell, db_of, document_row, flag, is_held, is_marked, entry_of, id_of, is_gone, local_of, local_row, number_of, revision_of, revision_row, sequence_of, whole_in, winner_text}
+use Rattle.tables.specs.Rows.{body_cell, db_of, document_row, flag, is_held, is_held_deleted, entry_of, id_of, is_gone_row, local_of, local_row, number_of, revision_of_row, revision_row, sequence_of_row, whole_in_cell, winner_text}
 use Rattle.file_check.specs.Tables.{HasHeldLeaves}
 
 -- the row of a local document, whatever its database is
@@ -22,16 +22,16 @@ pub record IsLawfulLocal (r : Row) : Type 0 where
 
 -- the row of a document, whatever its database and its history are
 pub record IsLawfulDocument (r : Row) : Type 0 where
-  pub is : r ≡ document_row (number_of r) (db_of r) (id_of r) (pos (sequence_of r)) (winner_text r) (is_gone r)
+  pub is : r ≡ document_row (number_of r) (db_of r) (id_of r) (pos (sequence_of_row r)) (winner_text r) (is_gone_row r)
   pub named : IsTrue (is_document_id (id_of r))
   pub text : IsUtf8 (id_of r)
-  pub positive : 1 ≤ sequence_of r
+  pub positive : 1 ≤ sequence_of_row r
 
 -- the row of a revision, whatever its document is and whether its parent is known
 pub record IsLawfulRevision (r : Row) : Type 0 where
-  pub is : r ≡ revision_row (number_of r) (db_of r) (id_of r) (revision_of r) (entry_of r)
-  pub lawful : IsTrue (is_revision (revision_of r))
-  pub first : ((entry_of r).parent ≡ None) ↔ ((revision_of r).number ≡ 1)
+  pub is : r ≡ revision_row (number_of r) (db_of r) (id_of r) (revision_of_row r) (entry_of r)
+  pub lawful : IsTrue (is_revision (revision_of_row r))
+  pub first : ((entry_of r).parent ≡ None) ↔ ((revision_of_row r).number ≡ 1)
   pub body : (held : Held) → (entry_of r).held ≡ Some held → IsBody held.body
   pub spelled : (held : Held) → (entry_of r).held ≡ Some held → json.IsLawful held.body
 
@@ -49,15 +49,15 @@ pub record ShowsNothing (r : Row) : Type 0 where
 -- the last three cells of the row of a revision say what is held of it, in canonical text
 pub record IsHeldSo (r : Row) : Type 0 where
   pub held : column r 6 ≡ flag (is_held (entry_of r).held)
-  pub mark : column r 7 ≡ flag (is_marked (entry_of r).held)
+  pub mark : column r 7 ≡ flag (is_held_deleted (entry_of r).held)
   pub text : column r 8 ≡ body_cell (entry_of r).held
   pub body : (held : Held) → (entry_of r).held ≡ Some held → IsBody held.body
   pub spelled : (held : Held) → (entry_of r).held ≡ Some held → json.IsLawful held.body
 
 -- the row of a document is that of its database, which is at this sequence, and of its history
 pub record IsOwnedDocument (r : Row) (length : Option ℤ) (h : HistoryContent) : Type 0 where
-  pub within : (n : ℤ) × (length ≡ Some n) × (int_le (whole_in (column r 3)) n ≡ true)
-  pub winning : IsWinning h (winner_text r) (is_gone r)
+  pub within : (n : ℤ) × (length ≡ Some n) × (int_le (whole_in_cell (column r 3)) n ≡ true)
+  pub winning : IsWinning h (winner_text r) (is_gone_row r)
   pub leaves : HasHeldLeaves h
 
 -- the row of a revision of this number names none before it where it is the first, and else one that is known

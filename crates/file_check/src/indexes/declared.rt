@@ -4,7 +4,7 @@ ghost use Rattle.std.specs.Prelude.{◌≡◌, option_map, string_bytes};
 ghost use Rattle.sqlite_value.specs.Order as order;
 ghost use Rattle.tables.specs.Schema.{decls_tree};
 ghost use Rattle.index.specs.Meaning.{declares_in};
-ghost use Rattle.index.specs.Rows.{design_of, home_of, index_name_of};
+ghost use Rattle.index.specs.Rows.{design_of, database_of_declaration, index_name_of_row};
 ghost use Rattle.file_check.specs.inner.IndexRows.{IsNextDeclaration};
 ghost use Rattle.file_check.specs.Indexes.{AreChecked, IsAnswer, IsCheckable, IsOwnDeclaration, Spells};
 ghost use Rattle.file_check.specs.Checks.{Checks};
@@ -98,7 +98,7 @@ fn spell_stored<S: Alter>(
 ) -> Result<Option<String>, CheckFault>
     ensures { (r : order.Row)
         → Checks S.Store (IsNextDeclaration row.now r) conn.old conn.new
-        (λ trees text. Spells (declares_in trees (home_of r) (design_of r) (index_name_of r)) (option_map string_bytes text)) result }
+        (λ trees text. Spells (declares_in trees (database_of_declaration r) (design_of r) (index_name_of_row r)) (option_map string_bytes text)) result }
 {
     let Some(design) = id_in(alloc, row, 2)? else {
         return Ok(None);

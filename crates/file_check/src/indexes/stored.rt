@@ -10,7 +10,7 @@ ghost use Rattle.store.specs.Indexes.{declared_fields, fields_in, index_fields_o
 ghost use Rattle.store.specs.Winning.{IsHeldSo, single, winner_alone};
 ghost use Rattle.tables.specs.Layout.{IsStore};
 ghost use Rattle.tables.specs.Listings.{IsListedDocument};
-ghost use Rattle.tables.specs.Rows.{history_in};
+ghost use Rattle.tables.specs.Rows.{history_in_rows};
 ghost use Rattle.tables.specs.Schema.{revs_tree};
 ghost use Rattle.tables.specs.Shown.{IsShownRevision};
 ghost use Rattle.transactions.specs.Reading.{known_shown, winner_shown};
@@ -37,7 +37,7 @@ pub(crate) fn read_winning<S: Alter>(
     db: &i64,
     id: &DocId,
 ) -> Result<History, CheckFault>
-    ensures { Checks S.Store IsStore conn.old conn.new (λ trees history. history ≡ winner_alone (history_in (trees revs_tree) db.now id.now)) result }
+    ensures { Checks S.Store IsStore conn.old conn.new (λ trees history. history ≡ winner_alone (history_in_rows (trees revs_tree) db.now id.now)) result }
 {
     let Some(winner) = find_winner(alloc, conn, db, id)? else {
         return Ok(History::new(alloc));
@@ -53,7 +53,7 @@ fn find_winner<S: Alter>(
     db: &i64,
     id: &DocId,
 ) -> Result<Option<MarkedRev>, CheckFault>
-    ensures { Checks S.Store IsStore conn.old conn.new (λ trees found. found ≡ marked_winner (history_in (trees revs_tree) db.now id.now)) result }
+    ensures { Checks S.Store IsStore conn.old conn.new (λ trees found. found ≡ marked_winner (history_in_rows (trees revs_tree) db.now id.now)) result }
 {
     let rows = document_rows(conn, db, id.as_str().as_bytes())?;
     read_winner(alloc, &rows)
@@ -78,7 +78,7 @@ fn find_revision<S: Alter>(
     id: &DocId,
     rev: &Rev,
 ) -> Result<Option<Entry>, CheckFault>
-    ensures { Checks S.Store IsStore conn.old conn.new (λ trees found. found ≡ map.get (history_in (trees revs_tree) db.now id.now) rev.now) result }
+    ensures { Checks S.Store IsStore conn.old conn.new (λ trees found. found ≡ map.get (history_in_rows (trees revs_tree) db.now id.now) rev.now) result }
 {
     let rows = one_revision_rows(conn, db, id.as_str().as_bytes(), rev.number(), rev.hash())?;
     read_revision(alloc, &rows)

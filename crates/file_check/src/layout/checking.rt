@@ -9,7 +9,7 @@ ghost use Rattle.tables.specs.Schema.{meta_tree};
 ghost use Rattle.tables.specs.declared.meta.FileVersion.{FileVersion};
 ghost use Rattle.file_check.specs.Inspecting.{Goes, Inspects};
 ghost use Rattle.file_check.specs.Tables.{AreTablesChecked, HasSoundDatabases, HasSoundDocuments, HasSoundLocals};
-ghost use Rattle.file_check.specs.Tables.{HasSoundRevisions, IsShaped, IsSoundRow, table_of, tree_of};
+ghost use Rattle.file_check.specs.Tables.{HasSoundRevisions, IsShaped, IsSoundRow, table_of_finding, tree_of};
 ghost use Rattle.file_check.specs.inner.Queries.{AreRowsChecked, HasCells, IsBefore, IsThisVersion, Judges};
 ghost use Rattle.file_check.specs.inner.Walks.{IsRowStep, IsStep, next_rows};
 
@@ -64,7 +64,7 @@ fn check_row<S: Alter>(
 
 /// Names the row that is wrong.
 fn find_wrong(table: Checked, row: &Row, wrong: Wrong) -> Finding
-    ensures of_table { result.table ≡ table_of table }
+    ensures of_table { result.table ≡ table_of_finding table }
     ensures numbered { result.key ≡ number_of row.now }
 {
     Finding {
@@ -87,7 +87,7 @@ fn step_over<S: Alter>(
     row: &Row,
 ) -> Result<Step, CheckFault>
     ensures { Goes S.Store IsShaped conn.old conn.new
-        (λ trees step. HasCells table row.now → IsBefore table trees → IsRowStep (table_of table) (IsSoundRow table trees) row.now step) result }
+        (λ trees step. HasCells table row.now → IsBefore table trees → IsRowStep (table_of_finding table) (IsSoundRow table trees) row.now step) result }
 {
     let found = check_row(alloc, conn, table, row)?;
     match found {
@@ -104,7 +104,7 @@ fn check_next_row<S: Alter>(
     last: &Option<i64>,
 ) -> Result<Step, CheckFault>
     ensures { Inspects S.Store IsShaped conn.old conn.new
-        (λ trees step. IsBefore table trees → IsStep (table_of table) (trees (tree_of table)) (IsSoundRow table trees) last.now step) result }
+        (λ trees step. IsBefore table trees → IsStep (table_of_finding table) (trees (tree_of table)) (IsSoundRow table trees) last.now step) result }
 {
     let rows = next_row(conn, table, last)?;
     match rows.first() {

@@ -5,7 +5,7 @@ ghost use Rattle.std.specs.List.{AllByRecursion, list_all};
 ghost use Rattle.tree.specs.History.{held_of};
 ghost use Rattle.sqlite_value.specs.Order.{column};
 ghost use Rattle.tables.specs.Layout.{IsRevisionRow};
-ghost use Rattle.tables.specs.Rows.{db_of, is_gone, whole_in};
+ghost use Rattle.tables.specs.Rows.{db_of, is_gone_row, whole_in_cell};
 ghost use Rattle.tables.specs.Schema.{revs_tree};
 ghost use Rattle.tables.specs.Shown.{IsShownRevision};
 ghost use Rattle.transactions.specs.Reading.{history_shown};
@@ -89,7 +89,7 @@ fn has_held_leaves(history: &History) -> Result<bool, CheckFault>
 
 /// Tells whether the sequence of a document is one of a database at this sequence.
 fn is_within(length: Option<i64>, row: &Row) -> bool
-    ensures { IsTrue result ↔ ((n : ℤ) × (length ≡ Some n) × (int_le (whole_in (column row.now 3)) n ≡ true)) }
+    ensures { IsTrue result ↔ ((n : ℤ) × (length ≡ Some n) × (int_le (whole_in_cell (column row.now 3)) n ≡ true)) }
 {
     match length {
         Some(length) => whole_or_zero(row, 3) <= length,
@@ -100,7 +100,7 @@ fn is_within(length: Option<i64>, row: &Row) -> bool
 /// Tells whether a row says that the winner of its document is deleted.
 #[tactic(auto, using(crate::proofs::RowForms::gone_is, crate::proofs::RowForms::gone_not))]
 fn is_marked(row: &Row) -> bool
-    ensures { result ≡ is_gone row.now }
+    ensures { result ≡ is_gone_row row.now }
 {
     match whole_at(row, 5) {
         Some(mark) => mark > 0,

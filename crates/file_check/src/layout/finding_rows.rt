@@ -3,7 +3,7 @@
 ghost use Rattle.std.specs.Prelude.{◌≡◌, length, nat_lt};
 ghost use Rattle.std.specs.List.{list_any};
 ghost use Rattle.sqlite_value.specs.Order.{bytes, column};
-ghost use Rattle.tables.specs.Rows.{is_of, whole_in};
+ghost use Rattle.tables.specs.Rows.{is_row_of_document, whole_in_cell};
 ghost use Rattle.tables.specs.Schema.{docs_tree, revs_tree};
 ghost use Rattle.file_check.specs.Inspecting.{Inspects};
 ghost use Rattle.file_check.specs.Tables.{IsShaped};
@@ -17,7 +17,7 @@ use std::str;
 
 /// Returns the whole number in a cell, and 0 where there is none.
 pub(crate) fn whole_or_zero(row: &Row, at: usize) -> i64
-    ensures { result ≡ whole_in (column row.now at) }
+    ensures { result ≡ whole_in_cell (column row.now at) }
 {
     match row.get_ref(at) {
         Ok(ValueRef::Int(number)) => number,
@@ -59,7 +59,7 @@ pub(crate) fn has_document<S: Alter>(
     db: &i64,
     id: &[u8],
 ) -> Result<bool, CheckFault>
-    ensures { Inspects S.Store IsShaped conn.old conn.new (λ trees found. found ≡ list_any (is_of db.now id.now) (trees docs_tree)) result }
+    ensures { Inspects S.Store IsShaped conn.old conn.new (λ trees found. found ≡ list_any (is_row_of_document db.now id.now) (trees docs_tree)) result }
 {
     let rows = one_document_rows(conn, db, id)?;
     Ok(is_any(&rows))

@@ -5,7 +5,7 @@ ghost use Rattle.std.specs.List.{list_any};
 ghost use Rattle.sqlite_value.specs.Order.{column};
 ghost use Rattle.sqlite_value.specs.declared.value.Value.TheVariants.{Int, Null};
 ghost use Rattle.tables.specs.Layout.{IsRevisionRow};
-ghost use Rattle.tables.specs.Rows.{db_of, id_of, is_of};
+ghost use Rattle.tables.specs.Rows.{db_of, id_of, is_row_of_document};
 ghost use Rattle.tables.specs.Schema.{docs_tree};
 ghost use Rattle.tree.specs.Revision.{is_revision};
 ghost use Rattle.file_check.specs.Inspecting.{Inspects};
@@ -137,7 +137,7 @@ fn check_followed<S: Alter>(
     there: bool,
 ) -> Result<Option<Wrong>, CheckFault>
     ensures { Inspects S.Store IsShaped conn.old conn.new
-        (λ trees found. HasRevisionCells row.now → there ≡ list_any (is_of (db_of row.now) (id_of row.now)) (trees docs_tree)
+        (λ trees found. HasRevisionCells row.now → there ≡ list_any (is_row_of_document (db_of row.now) (id_of row.now)) (trees docs_tree)
         → Judges (IsRevisionRow trees row.now) found) result }
 {
     let known = has_revision(

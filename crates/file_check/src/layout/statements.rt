@@ -2,7 +2,7 @@
 
 ghost use Rattle.std.specs.Prelude.{◌≡◌, IsPermutation, filter, map, None, Some};
 ghost use Rattle.tables.specs.Calls.{Reads};
-ghost use Rattle.tables.specs.Rows.{has_number, is_of, listed_document, shown_revision};
+ghost use Rattle.tables.specs.Rows.{has_number, is_row_of_document, listed_document, shown_revision};
 ghost use Rattle.tables.specs.Schema.{dbs_tree, docs_tree, locals_tree, meta_tree, revs_tree};
 ghost use Rattle.file_check.specs.Tables.{IsShaped};
 ghost use Rattle.file_check.specs.inner.Queries.{is_numbered, is_stored, shown_length, shown_numbered, shown_stored};
@@ -172,7 +172,7 @@ pub(crate) fn one_document_rows<S: Alter>(
     id: &[u8],
 ) -> Result<Vec<Row>, Error>
     ensures { Reads S.Store IsShaped conn.old conn.new
-        (λ trees rows. rows.items ≡ map listed_document (filter (is_of db.now id.now) (trees docs_tree))) result }
+        (λ trees rows. rows.items ≡ map listed_document (filter (is_row_of_document db.now id.now) (trees docs_tree))) result }
 {
     query(
         conn,
@@ -188,7 +188,7 @@ pub(crate) fn history_rows<S: Alter>(
     id: &[u8],
 ) -> Result<Vec<Row>, Error>
     ensures { Reads S.Store IsShaped conn.old conn.new
-        (λ trees rows. IsPermutation (map shown_revision (filter (is_of db.now id.now) (trees revs_tree))) rows.items) result }
+        (λ trees rows. IsPermutation (map shown_revision (filter (is_row_of_document db.now id.now) (trees revs_tree))) rows.items) result }
 {
     query(
         conn,

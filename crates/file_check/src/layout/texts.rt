@@ -7,7 +7,7 @@ ghost use Rattle.couch_json.specs.View.{view};
 ghost use Rattle.policy.specs.Security.{is_security};
 ghost use Rattle.sqlite_value.specs.declared.value.Value.TheVariants.{Text};
 ghost use Rattle.store.specs.Lawful.{IsBody};
-ghost use Rattle.tables.specs.Rows.{json_in};
+ghost use Rattle.tables.specs.Rows.{json_in_cell};
 ghost use Rattle.file_check.specs.inner.Texts.{IsBodyText, IsSecurityText};
 
 use crate::finding::CheckFault;
@@ -19,8 +19,8 @@ use std::alloc::Global;
 #[tactic(auto, using(crate::proofs::RowForms::unspelled))]
 fn read_canonical(alloc: Global, text: &[u8]) -> Result<Option<Json>, CheckFault>
     ensures value { IfOk result
-        (λ found. MatchOption found (text.now ≢ canonical (json_in (Text text.now)))
-        (λ value. (view value ≡ json_in (Text text.now)) × (text.now ≡ canonical (view value)))) }
+        (λ found. MatchOption found (text.now ≢ canonical (json_in_cell (Text text.now)))
+        (λ value. (view value ≡ json_in_cell (Text text.now)) × (text.now ≡ canonical (view value)))) }
     ensures lawful { IfOk result (λ found. MatchOption found ⊤ (λ value. IsLawful (view value))) }
 {
     let value = match couch_json::read(alloc, text) {
@@ -53,7 +53,7 @@ pub(crate) fn is_security_text(alloc: Global, text: &[u8]) -> Result<bool, Check
 /// Tells whether the text is that of the body of a document.
 pub(crate) fn is_body_text(alloc: Global, text: &[u8]) -> Result<bool, CheckFault>
     ensures ok { IfOk result (λ is. IsTrue is ↔ IsBodyText text.now) }
-    ensures lawful { IfOk result (λ is. IsTrue is → IsLawful (json_in (Text text.now))) }
+    ensures lawful { IfOk result (λ is. IsTrue is → IsLawful (json_in_cell (Text text.now))) }
 {
     let Some(value) = read_canonical(alloc, text)? else {
         return Ok(false);

@@ -9,15 +9,15 @@ use Rattle.sqlite_value.specs.Order.{Row, column}
 use Rattle.tables.specs.Layout.{IsDocumentRow, IsStore}
 use Rattle.sqlite_keyed.specs.Lists.{sort_by}
 use Rattle.tables.specs.Listings.{first_rows, has_id_between, is_between, rows_behind}
-use Rattle.tables.specs.Rows.{by_id, db_of, id_of, is_gone, is_in, listed_document, winner_text}
+use Rattle.tables.specs.Rows.{by_id, db_of, id_of, is_gone_row, is_row_of_database, listed_document, winner_text}
 use Rattle.tables.specs.Shown.{held_shown}
 use Rattle.tables.specs.declared.decode.ListedDocument.{ListedDocument}
 use Rattle.tree.specs.Revision.{Revision, revision_read}
-use Rattle.tree.specs.ShownDocument.{shown_document}
+use Rattle.tree.specs.ShownDocument.{document_at_revision}
 
 -- the revision of a row as its document, where something is held of it
 abbrev pub shown_by_row : List ℕ → Revision → Row → Option Value
-shown_by_row id r s = option_map (λ h. shown_document id r (record { deleted = h.0; body = h.1 })) (held_shown s)
+shown_by_row id r s = option_map (λ h. document_at_revision id r (record { deleted = h.0; body = h.1 })) (held_shown s)
 
 -- that of the first row
 abbrev pub shown_by_rows : List ℕ → Revision → List Row → Option Value
@@ -27,7 +27,7 @@ shown_by_rows id r rows = option_and_then (shown_by_row id r) (slice_get rows 0)
 pub record IsListedAs (r : Row) (d : ListedDocument) : Type 0 where
   pub id : d.id ≡ id_of r
   pub winner : revision_read (winner_text r) ≡ Some d.winner
-  pub deleted : d.deleted ≡ is_gone r
+  pub deleted : d.deleted ≡ is_gone_row r
 
 -- the same of the row as a query shows it
 abbrev pub IsListedFrom : Row → ListedDocument → Type 0
@@ -43,11 +43,11 @@ pub record HasLive (rows : List Row) : Type 0 where
 -- and this is the document that it shows
 pub record ShowsLive (id : List ℕ) (r : Revision) (rows : List Row) (document : Value) : Type 0 where
   pub live : HasLive rows
-  pub shown : document ≡ shown_document id r (record { deleted = false; body = live.body })
+  pub shown : document ≡ document_at_revision id r (record { deleted = false; body = live.body })
 
 -- the row is that of a document of the database whose id lies between the bounds
 abbrev pub is_in_range : ℤ → List ℕ → List ℕ → Row → Bool
-is_in_range db low high r = is_in db r && has_id_between low high r
+is_in_range db low high r = is_row_of_database db r && has_id_between low high r
 
 -- the rows of these documents, by the bytes of their ids
 abbrev pub documents_between : ℤ → List ℕ → List ℕ → List Row → List Row
@@ -65,4 +65,4 @@ IsCut low high bytes = (is_between low high bytes ≡ true) ⊎ (bytes ≡ high)
 -- which that is read, and whose winner is not deleted.
 abbrev pub IsSoundLive : {S : Type 0} → Ghosts S → ℤ → ListedDocument → Row → Held S → Held S → Type 0
 IsSoundLive g db listed d old new =
-    HasCleanDisk (state g new) × (IsTrue (state g old).is_open → IsStore (state g old).now × IsDocumentRow (state g old).now.trees d × (db_of d ≡ db) × IsListedAs d listed × (is_gone d ≡ false))
+    HasCleanDisk (state g new) × (IsTrue (state g old).is_open → IsStore (state g old).now × IsDocumentRow (state g old).now.trees d × (db_of d ≡ db) × IsListedAs d listed × (is_gone_row d ≡ false))

@@ -11,16 +11,16 @@ use Rattle.sqlite_value.specs.Order.{Row}
 use Rattle.sqlite_trees.specs.Tree.{Trees}
 use Rattle.sqlite_keyed.specs.Lists.{sort_by}
 use Rattle.tables.specs.Listings.{IsListedDocument, has_mark, listed_counts, listed_mark, listed_sequence, sequence_row}
-use Rattle.tables.specs.Rows.{by_id, by_sequence, id_of, is_gone as is_gone_row, is_in, listed_document}
+use Rattle.tables.specs.Rows.{by_id, by_sequence, id_of, is_gone_row as is_gone_row, is_row_of_database, listed_document}
 use Rattle.tables.specs.Schema.{docs_tree}
 
 -- the rows of all documents of a database, as a list of them shows them, by id
 abbrev pub listed_by_id : Trees → ℤ → List Row
-listed_by_id trees db = map listed_document (sort_by by_id (filter (is_in db) (trees docs_tree)))
+listed_by_id trees db = map listed_document (sort_by by_id (filter (is_row_of_database db) (trees docs_tree)))
 
 -- and by sequence
 abbrev pub listed_by_sequence : Trees → ℤ → List Row
-listed_by_sequence trees db = map listed_document (sort_by by_sequence (filter (is_in db) (trees docs_tree)))
+listed_by_sequence trees db = map listed_document (sort_by by_sequence (filter (is_row_of_database db) (trees docs_tree)))
 
 -- how many documents of a database have a winner that is deleted, or is not, as it is asked for
 abbrev pub all_count : Trees → ℤ → Bool → ℕ
@@ -28,7 +28,7 @@ all_count trees db deleted = count_by (λ s. has_mark deleted (listed_mark s)) (
 
 -- the ids of the documents of a database whose winner is not deleted, in the order of their rows
 abbrev pub live_ids : Trees → ℤ → List (List ℕ)
-live_ids trees db = map id_of (filter (λ r. is_in db r && has_mark false (is_gone_row r)) (trees docs_tree))
+live_ids trees db = map id_of (filter (λ r. is_row_of_database db r && has_mark false (is_gone_row r)) (trees docs_tree))
 
 -- the same, of the documents that a database holds
 abbrev pub document_count : Bool → Database → ℕ

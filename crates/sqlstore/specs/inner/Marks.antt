@@ -12,7 +12,7 @@ use Rattle.store.specs.Database.{Document, TextMap}
 use Rattle.store.specs.Pages.{is_gone}
 use Rattle.store.specs.declared.write.Write.{Write}
 use Rattle.tables.specs.Listings.{has_mark}
-use Rattle.tables.specs.Rows.{documents_in}
+use Rattle.tables.specs.Rows.{documents_in_rows}
 use Rattle.tables.specs.Schema.{docs_tree, revs_tree}
 use Rattle.sqlstore.specs.inner.Listing.{all_count}
 use Rattle.sqlstore.specs.declared.document_count.DocumentCount.{DocumentCount}
@@ -21,7 +21,7 @@ use Rattle.sqlstore.specs.declared.marked.Marked.{Marked}
 
 -- the documents of the database of this number
 abbrev pub documents_at : Trees → ℤ → TextMap Document
-documents_at trees db = documents_in (trees docs_tree) (trees revs_tree) db
+documents_at trees db = documents_in_rows (trees docs_tree) (trees revs_tree) db
 
 -- ---- marks
 

@@ -8,7 +8,7 @@ use Rattle.couch_json.specs.View.{view}
 use Rattle.store.specs.DatabaseName.{is_database_name}
 use Rattle.sqlite_value.specs.declared.value.Value.TheVariants.{Blob}
 use Rattle.sqlite_value.specs.Order.{Row, bytes, column}
-use Rattle.tables.specs.Rows.{count_in, is_named, json_in, length_of, number_of, security_of, whole_in}
+use Rattle.tables.specs.Rows.{count_in_cell, is_named, json_in_cell, sequence_of_database, number_of, security_of, whole_in_cell}
 use Rattle.sqlite_trees.specs.Tree.{Trees}
 use Rattle.tables.specs.Schema.{dbs_tree, entries_tree}
 use Rattle.tables.specs.Shown.{revision_shown}
@@ -27,14 +27,14 @@ FoundValues = ℤ × json.Value × ℕ
 
 -- of its row
 abbrev pub found_in : Row → FoundValues
-found_in r = (number_of r, security_of r, length_of r)
+found_in r = (number_of r, security_of r, sequence_of_database r)
 
 -- its number and its sequence alone
 abbrev pub NumberValues : Type 0
 NumberValues = ℤ × ℕ
 
 abbrev pub numbers_in : Row → NumberValues
-numbers_in r = (number_of r, length_of r)
+numbers_in r = (number_of r, sequence_of_database r)
 
 -- what is known of a database
 abbrev pub known_values : KnownDatabase → FoundValues
@@ -86,7 +86,7 @@ AreKnownEntries trees counts = IfSome counts (λ cs. AreEntryCounts trees cs.ite
 
 -- of what a query shows of its row
 abbrev pub found_shown : Row → FoundValues
-found_shown s = (whole_in (column s 0), json_in (column s 1), count_in (column s 2))
+found_shown s = (whole_in_cell (column s 0), json_in_cell (column s 1), count_in_cell (column s 2))
 
 -- the name of a database
 abbrev pub name_shown : Row → List ℕ

@@ -10,7 +10,7 @@ use tree::{DocId, Rev};
 impl<S: Alter> SqlStore<S> {
     ghost use Rattle.std.specs.Prelude.{◌≡◌, ◌<◌, ◌^◌, IfOk, Some, map};
     ghost use Rattle.store.specs.PageStructs.{IsBounded, sequence_page_of, sequence_row_of, sequence_rows};
-    ghost use Rattle.tables.specs.Rows.{history_in};
+    ghost use Rattle.tables.specs.Rows.{history_in_rows};
     ghost use Rattle.tables.specs.Schema.{revs_tree};
     ghost use Rattle.tree.specs.History.{leaves};
     ghost use Rattle.sqlstore.specs.inner.Listing.{listed_by_sequence, page_with_leaves, winners_page, with_leaves};
@@ -39,7 +39,7 @@ impl<S: Alter> SqlStore<S> {
     #[tactic(auto, using(tree::proofs::Outlines::leaves_in))]
     fn find_leaves(&mut self, number: &i64, id: &DocId) -> Result<Vec<Rev>, StoreFault>
         ensures answer { Answers S.Store self.old self.new (λ revs. revs.items)
-            (Some (leaves (history_in (trees_of S.Store self.old revs_tree) number.now id.now))) result }
+            (Some (leaves (history_in_rows (trees_of S.Store self.old revs_tree) number.now id.now))) result }
         ensures stands { Stands S.Store self.old self.new }
     {
         let rows = self.hash_rows(number, id.as_str().as_bytes())?;
@@ -55,7 +55,7 @@ impl<S: Alter> SqlStore<S> {
     /// Makes the row of a document with all its leaves.
     fn show_leaves(&mut self, number: &i64, row: &SeqRow) -> Result<SeqRow, StoreFault>
         ensures answer { Answers S.Store self.old self.new sequence_row_of
-            (Some (with_leaves (history_in (trees_of S.Store self.old revs_tree) number.now) (sequence_row_of row.now))) result }
+            (Some (with_leaves (history_in_rows (trees_of S.Store self.old revs_tree) number.now) (sequence_row_of row.now))) result }
         ensures sequence { IfOk result (λ r. r.sequence ≡ row.now.sequence) }
         ensures stands { Stands S.Store self.old self.new }
     {
@@ -71,7 +71,7 @@ impl<S: Alter> SqlStore<S> {
     /// Makes the rows of documents, each with all its leaves.
     fn show_all_leaves(&mut self, number: &i64, rows: &[SeqRow]) -> Result<Vec<SeqRow>, StoreFault>
         ensures answer { Answers S.Store self.old self.new (λ shown. sequence_rows shown.items)
-            (Some (map (with_leaves (history_in (trees_of S.Store self.old revs_tree) number.now)) (sequence_rows rows.now))) result }
+            (Some (map (with_leaves (history_in_rows (trees_of S.Store self.old revs_tree) number.now)) (sequence_rows rows.now))) result }
         ensures sequences { IfOk result (λ shown. map (λ r. r.sequence) shown.items ≡ map (λ r. r.sequence) rows.now) }
         ensures stands { Stands S.Store self.old self.new }
     {
@@ -91,7 +91,7 @@ impl<S: Alter> SqlStore<S> {
     ) -> Result<PageBySeq, StoreFault>
         requires { IsBounded range.now page }
         ensures answer { Answers S.Store self.old self.new sequence_page_of
-            (Some (page_with_leaves (history_in (trees_of S.Store self.old revs_tree) number.now) (sequence_page_of page))) result }
+            (Some (page_with_leaves (history_in_rows (trees_of S.Store self.old revs_tree) number.now) (sequence_page_of page))) result }
         ensures bounded { IfOk result (IsBounded range.now) }
         ensures stands { Stands S.Store self.old self.new }
     {

@@ -16,7 +16,7 @@ use tree::{DocId, Entry, History, MarkedRev, Outline, Rev};
 impl<S: Alter> SqlStore<S> {
     ghost use Rattle.std.specs.Prelude.{Some};
     ghost use Rattle.std.specs.FinMap as map;
-    ghost use Rattle.tables.specs.Rows.{history_in};
+    ghost use Rattle.tables.specs.Rows.{history_in_rows};
     ghost use Rattle.tables.specs.Schema.{revs_tree};
     ghost use Rattle.tree.specs.History.{names, winner};
     ghost use Rattle.tree.specs.Outline.{marked_winner, outline_of};
@@ -26,7 +26,7 @@ impl<S: Alter> SqlStore<S> {
     /// the document's row names.
     pub(crate) fn find_history(&mut self, number: &i64, id: &DocId) -> Result<History, StoreFault>
         ensures answer { Answers S.Store self.old self.new (λ history. history)
-            (Some (history_in (trees_of S.Store self.old revs_tree) number.now id.now)) result }
+            (Some (history_in_rows (trees_of S.Store self.old revs_tree) number.now id.now)) result }
         ensures stands { Stands S.Store self.old self.new }
     {
         let winner = self.find_winner(number, id)?;
@@ -38,7 +38,7 @@ impl<S: Alter> SqlStore<S> {
     /// Finds the same history without its bodies. It has to have that winner too.
     pub(crate) fn find_outline(&mut self, number: &i64, id: &DocId) -> Result<Outline, StoreFault>
         ensures answer { Answers S.Store self.old self.new (λ outline. outline)
-            (Some (outline_of (history_in (trees_of S.Store self.old revs_tree) number.now id.now))) result }
+            (Some (outline_of (history_in_rows (trees_of S.Store self.old revs_tree) number.now id.now))) result }
         ensures stands { Stands S.Store self.old self.new }
     {
         let winner = self.find_winner(number, id)?;
@@ -56,7 +56,7 @@ impl<S: Alter> SqlStore<S> {
         rev: &Rev,
     ) -> Result<Option<Entry>, StoreFault>
         ensures answer { Answers S.Store self.old self.new (λ found. found)
-            (Some (map.get (history_in (trees_of S.Store self.old revs_tree) number.now id.now) rev.now)) result }
+            (Some (map.get (history_in_rows (trees_of S.Store self.old revs_tree) number.now id.now) rev.now)) result }
         ensures stands { Stands S.Store self.old self.new }
     {
         let known = self.load_revision(number, id, rev)?;
@@ -72,7 +72,7 @@ impl<S: Alter> SqlStore<S> {
     /// Tells whether a revision is the winner of a document.
     fn is_winner(&mut self, number: &i64, id: &DocId, rev: &Rev) -> Result<bool, StoreFault>
         ensures answer { Answers S.Store self.old self.new (λ is. is)
-            (Some (names (winner (history_in (trees_of S.Store self.old revs_tree) number.now id.now)) rev.now)) result }
+            (Some (names (winner (history_in_rows (trees_of S.Store self.old revs_tree) number.now id.now)) rev.now)) result }
         ensures stands { Stands S.Store self.old self.new }
     {
         match self.find_winner(number, id)? {
@@ -97,7 +97,7 @@ impl<S: Alter> SqlStore<S> {
     /// Reads the history of a document.
     fn load_history(&mut self, number: &i64, id: &DocId) -> Result<History, StoreFault>
         ensures answer { Answers S.Store self.old self.new (λ history. history)
-            (Some (history_in (trees_of S.Store self.old revs_tree) number.now id.now)) result }
+            (Some (history_in_rows (trees_of S.Store self.old revs_tree) number.now id.now)) result }
         ensures stands { Stands S.Store self.old self.new }
     {
         let rows = self.revision_rows(number, id.as_str().as_bytes())?;
@@ -107,7 +107,7 @@ impl<S: Alter> SqlStore<S> {
     /// Reads the history of a document without its bodies.
     pub(crate) fn load_outline(&mut self, number: &i64, id: &DocId) -> Result<Outline, StoreFault>
         ensures answer { Answers S.Store self.old self.new (λ outline. outline)
-            (Some (outline_of (history_in (trees_of S.Store self.old revs_tree) number.now id.now))) result }
+            (Some (outline_of (history_in_rows (trees_of S.Store self.old revs_tree) number.now id.now))) result }
         ensures stands { Stands S.Store self.old self.new }
     {
         let rows = self.outline_rows(number, id.as_str().as_bytes())?;
@@ -122,7 +122,7 @@ impl<S: Alter> SqlStore<S> {
         rev: &Rev,
     ) -> Result<Option<Entry>, StoreFault>
         ensures answer { Answers S.Store self.old self.new (λ found. found)
-            (Some (map.get (history_in (trees_of S.Store self.old revs_tree) number.now id.now) rev.now)) result }
+            (Some (map.get (history_in_rows (trees_of S.Store self.old revs_tree) number.now id.now) rev.now)) result }
         ensures stands { Stands S.Store self.old self.new }
     {
         let id = id.as_str().as_bytes();
@@ -137,7 +137,7 @@ impl<S: Alter> SqlStore<S> {
         id: &DocId,
     ) -> Result<Option<MarkedRev>, StoreFault>
         ensures answer { Answers S.Store self.old self.new (λ found. found)
-            (Some (marked_winner (history_in (trees_of S.Store self.old revs_tree) number.now id.now))) result }
+            (Some (marked_winner (history_in_rows (trees_of S.Store self.old revs_tree) number.now id.now))) result }
         ensures stands { Stands S.Store self.old self.new }
     {
         let rows = self.document_rows(number, id.as_str().as_bytes())?;

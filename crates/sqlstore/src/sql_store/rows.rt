@@ -9,7 +9,7 @@ use tables::{databases, documents, locals, revisions};
 impl<S: Alter> SqlStore<S> {
     ghost use Rattle.std.specs.Prelude.{◌≡◌, IsPermutation, filter, map};
     ghost use Rattle.sqlite_keyed.specs.Lists.{sort_by};
-    ghost use Rattle.tables.specs.Rows.{by_name, is_named, is_of, is_revision_of, listed_document, shown_database};
+    ghost use Rattle.tables.specs.Rows.{by_name, is_named, is_row_of_document, is_revision_of, listed_document, shown_database};
     ghost use Rattle.tables.specs.Rows.{shown_hash, shown_local, shown_name, shown_outline, shown_revision};
     ghost use Rattle.tables.specs.Schema.{dbs_tree, docs_tree, locals_tree, revs_tree};
     ghost use Rattle.sqlstore.specs.Model.{Finds};
@@ -33,7 +33,8 @@ impl<S: Alter> SqlStore<S> {
     /// Returns the rows of the known revisions of a document, in some order.
     pub(crate) fn revision_rows(&mut self, db: &i64, id: &[u8]) -> Result<Vec<Row>, StoreFault>
         ensures { Finds S.Store
-            (λ trees rows. ∥ IsPermutation (map shown_revision (filter (is_of db.now id.now) (trees revs_tree))) rows.items ∥₁) self.old self.new result }
+            (λ trees rows. ∥ IsPermutation (map shown_revision (filter (is_row_of_document db.now id.now)
+            (trees revs_tree))) rows.items ∥₁) self.old self.new result }
     {
         let rows = revisions::revision_rows(&mut self.conn, db, id);
         judge_answer(&mut self.faults, &mut self.fetched, rows)
@@ -42,7 +43,8 @@ impl<S: Alter> SqlStore<S> {
     /// Returns the rows of the known revisions of a document without their bodies, in some order.
     pub(crate) fn outline_rows(&mut self, db: &i64, id: &[u8]) -> Result<Vec<Row>, StoreFault>
         ensures { Finds S.Store
-            (λ trees rows. ∥ IsPermutation (map shown_outline (filter (is_of db.now id.now) (trees revs_tree))) rows.items ∥₁) self.old self.new result }
+            (λ trees rows. ∥ IsPermutation (map shown_outline (filter (is_row_of_document db.now id.now)
+            (trees revs_tree))) rows.items ∥₁) self.old self.new result }
     {
         let rows = revisions::outline_rows(&mut self.conn, db, id);
         judge_answer(&mut self.faults, &mut self.fetched, rows)
@@ -52,7 +54,8 @@ impl<S: Alter> SqlStore<S> {
     /// some order.
     pub(crate) fn hash_rows(&mut self, db: &i64, id: &[u8]) -> Result<Vec<Row>, StoreFault>
         ensures { Finds S.Store
-            (λ trees rows. ∥ IsPermutation (map shown_hash (filter (is_of db.now id.now) (trees revs_tree))) rows.items ∥₁) self.old self.new result }
+            (λ trees rows. ∥ IsPermutation (map shown_hash (filter (is_row_of_document db.now id.now)
+            (trees revs_tree))) rows.items ∥₁) self.old self.new result }
     {
         let rows = revisions::hash_rows(&mut self.conn, db, id);
         judge_answer(&mut self.faults, &mut self.fetched, rows)
@@ -76,7 +79,8 @@ impl<S: Alter> SqlStore<S> {
 
     /// Returns the row of a document, if it was ever written.
     pub(crate) fn document_rows(&mut self, db: &i64, id: &[u8]) -> Result<Vec<Row>, StoreFault>
-        ensures { Finds S.Store (λ trees rows. rows.items ≡ map listed_document (filter (is_of db.now id.now) (trees docs_tree))) self.old self.new result }
+        ensures { Finds S.Store (λ trees rows. rows.items ≡ map listed_document (filter (is_row_of_document db.now id.now)
+            (trees docs_tree))) self.old self.new result }
     {
         let rows = documents::document_rows(&mut self.conn, db, id);
         judge_answer(&mut self.faults, &mut self.fetched, rows)
@@ -84,7 +88,8 @@ impl<S: Alter> SqlStore<S> {
 
     /// Returns the row of a local document, if there is one.
     pub(crate) fn local_rows(&mut self, db: &i64, id: &[u8]) -> Result<Vec<Row>, StoreFault>
-        ensures { Finds S.Store (λ trees rows. rows.items ≡ map shown_local (filter (is_of db.now id.now) (trees locals_tree))) self.old self.new result }
+        ensures { Finds S.Store (λ trees rows. rows.items ≡ map shown_local (filter (is_row_of_document db.now id.now)
+            (trees locals_tree))) self.old self.new result }
     {
         let rows = locals::local_rows(&mut self.conn, db, id);
         judge_answer(&mut self.faults, &mut self.fetched, rows)

@@ -9,7 +9,7 @@ use Rattle.sqlite.specs.Effect.{Database}
 use Rattle.sqlite.specs.Held.{Held, state}
 use Rattle.sqlite.specs.State.{HasCleanDisk}
 use Rattle.tree.specs.DocumentId.{is_document_id}
-use Rattle.tree.specs.History.{HistoryContent, behind, held_of, is_deleted, is_known, winner}
+use Rattle.tree.specs.History.{HistoryContent, ancestors_of_parent, held_of, is_deleted, is_known, winner}
 use Rattle.tree.specs.Nodes.{entries_before}
 use Rattle.tree.specs.Revision.{Revision, is_revision, text_of}
 use Rattle.tree.specs.Write.{head}
@@ -26,7 +26,7 @@ unknown_in h es = filter (λ e. not (is_known h e.0)) es
 
 -- what the write's own path says of its revisions: the last of it follows the parent that the write names, where that is known
 abbrev pub entries_of : HistoryContent → Addition → List (Revision × Entry)
-entries_of h a = entries_before (Some (record { deleted = a.deleted; body = a.body })) a.path (head (behind h a.parent))
+entries_of h a = entries_before (Some (record { deleted = a.deleted; body = a.body })) a.path (head (ancestors_of_parent h a.parent))
 
 -- what a write brings is lawful
 pub record IsLawfulAddition (a : Addition) : Type 0 where

@@ -4,7 +4,7 @@ use Rattle.std.specs.Prelude.{◌≡◌, ℕ, ℤ, bytes_eq, false, true, List, 
 use Rattle.std.specs.List.{list_any}
 use Rattle.sqlite.specs.Effect.{Database}
 use Rattle.store.specs.Indexes.{winning_body}
-use Rattle.tables.specs.Rows.{history_in}
+use Rattle.tables.specs.Rows.{history_in_rows}
 use Rattle.tables.specs.Schema.{decls_tree, revs_tree}
 use Rattle.index.specs.Calls.{ChangesIndexes}
 use Rattle.index.specs.Declaring.{IsRebuilt}
@@ -17,7 +17,7 @@ use Rattle.transactions.specs.Indexing.{is_postponed}
 
 -- what the winner of a document declares, as it is stored
 abbrev pub stored_fields : ℤ → List ℕ → Database → List ℕ → Option (List (List ℕ))
-stored_fields db id b name = declared_if (winning_body (history_in (b.trees revs_tree) db id)) name
+stored_fields db id b name = declared_if (winning_body (history_in_rows (b.trees revs_tree) db id)) name
 
 -- each index that this design document has is as it is stored that it declares it; each other one is declared as it was
 abbrev pub IsClearedAsStored : Declarations → Documents → ℤ → List ℕ → Database → Database → Type 0

@@ -3,7 +3,7 @@
 use Rattle.std.specs.Prelude.{ℕ, List, Option, Some, None, Err}
 use Rattle.couch_json.specs.View.{view}
 use Rattle.tree.specs.History.{HistoryContent}
-use Rattle.write.specs.Admission.{ancestry_placement, edit_outcome, placement_outcome}
+use Rattle.write.specs.Admission.{edit_outcome, placement_outcome}
 use Rattle.write.specs.inner.AncestryRead.{ancestry_of}
 use Rattle.write.specs.Bulk.{DocumentOutcome, Histories, as_outcome}
 use Rattle.write.specs.Terms.{Terms}
@@ -14,8 +14,7 @@ use Rattle.write.specs.declared.fault.WriteFault.TheVariants.{BadDocument, Denie
 -- what becomes of a request for the document of this id, with this history
 abbrev pub request_outcome : Terms → List ℕ → HistoryContent → Request → DocumentOutcome
 request_outcome terms id h (Edit document) = as_outcome (edit_outcome terms id h None (view document))
-request_outcome terms id h (Replicate replica) =
-    placement_outcome terms id h replica.sent replica.ancestry.path.items (ancestry_placement h (ancestry_of replica.ancestry))
+request_outcome terms id h (Replicate replica) = placement_outcome terms id h replica.sent (ancestry_of replica.ancestry)
 request_outcome terms id h Bad = Err BadDocument
 request_outcome terms id h (Forbidden rule) = Err (Denied rule)
 

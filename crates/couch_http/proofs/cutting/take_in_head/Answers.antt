@@ -19,7 +19,7 @@ returns-then-not-may_go_on-clause-ok c =
     let old = c.args.partial.bytes.items in
     let piece = c.args.piece.now in
     let long : nat_lt (length (old ++ piece)) head_limit ≡ false = search (rules, length-append old piece) in
-    rw (c.without_requests.ensures.stage, c.without_requests.ensures.ending, c.without_requests.ensures.requests) (
+    rw (c.empty_cut.ensures.stage, c.empty_cut.ensures.ending, c.empty_cut.ensures.requests) (
       tt,
       Begins-long (old ++ piece) c.in-Within.scan.lines c.in-Within.scan.line
           (scan-append_within old piece 0 Empty _ _ c.requires.scanned ∙ sym c.in-Within.ensures.found) long,
@@ -32,7 +32,7 @@ returns-else-is_err-2-clause-ok c =
     let grown : c.extend_from_slice.new.self.items ≡ old ++ piece = search rules in
     let short : nat_lt (length (old ++ piece)) head_limit ≡ true = search (rules, length-append old piece) in
     let scanned = scan-append_within old piece 0 Empty _ _ c.requires.scanned ∙ sym c.in-Within.ensures.found in
-    rw (c.without_requests-in-Within.ensures.stage, c.without_requests-in-Within.ensures.ending, c.without_requests-in-Within.ensures.requests) (
+    rw (c.empty_cut-in-Within.ensures.stage, c.empty_cut-in-Within.ensures.ending, c.empty_cut-in-Within.ensures.requests) (
       record {
         scanned = rw grown scanned;
         counted = search rules;

@@ -1,12 +1,12 @@
 use Rattle.std.proofs.Common.{◌≡◌, ◌+◌, map, take, vec_capacity, vec_len}
 use Rattle.couch_http.specs.Message.{message_of}
 use Rattle.store.specs.Calls.{GoesOn}
-use Rattle.hub.specs.Answering.{Serves}
+use Rattle.hub.specs.Answering.{RepliesInOrder}
 use Rattle.hub.proofs.answering.answer_all.Given as goal
 
 abbrev pub invariant-loop-request : goal.invariant-loop-request
 invariant-loop-request g l = record {
-  served : g.S.Store.is_honest l.node.store → Serves g.S.Store l.initial.node.configuration l.initial.node.store (map message_of (take l.request-index l.requests)) l.list.items l.node.store;
+  served : g.S.Store.is_honest l.node.store → RepliesInOrder g.S.Store l.initial.node.configuration l.initial.node.store (map message_of (take l.request-index l.requests)) l.list.items l.node.store;
   configuration : l.node.configuration ≡ l.initial.node.configuration;
   onward : GoesOn g.S.Store l.initial.node.store l.node.store;
   len : vec_len l.list ≡ vec_len l.initial.list + l.request-index;

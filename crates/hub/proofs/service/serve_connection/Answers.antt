@@ -19,8 +19,9 @@ returns-in-Ok-clause-served g c =
     let end = c.serve_pieces-end.result in
     let state = c.serve_pieces-end.new.hub in
     let next = next_connection c.args.hub.now.connections in
-    let numbered : Serves g.S.Store c.open.new.self next (Some end) served.0 input rest output after state =
-    subst (λ (k : ℕ). Serves g.S.Store c.open.new.self k (Some end) served.0 input rest output after state) c.in-Ok.ensures.number served.2 in
+    let numbered : Serves g.S.Store next (Some end) served.0 (record { hub = c.open.new.self; input = input; output = output }) (record { hub = state; input = rest; output = after }) =
+    subst (λ (k : ℕ). Serves g.S.Store k (Some end) served.0 (record { hub = c.open.new.self; input = input; output = output }) (record { hub = state; input = rest; output = after }))
+    c.in-Ok.ensures.number served.2 in
     inl (record {
       count = served.0;
       state = state;

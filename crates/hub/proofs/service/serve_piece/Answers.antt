@@ -1,6 +1,6 @@
 use Rattle.std.proofs.Common.{◌++◌, ◌∙◌, ℕ, List, ap₂, refl, subst, take-append-drop}
 use Rattle.store.proofs.Calls.{goes_on_itself, goes_on_then}
-use Rattle.streams.proofs.Taken.{nothing_left}
+use Rattle.couch_http.proofs.Taken.{nothing_left}
 use Rattle.hub.proofs.PartLemmas.{ServedSoFar, part_ends, piece_done, so_far_more, so_far_none}
 use Rattle.hub.proofs.service.serve_piece.Goals as goal
 

@@ -20,23 +20,21 @@ returns-in-Some-clause-served g c =
     let more = c.in-Some.ensures.served in (
       c.loop-number._number + more.0,
       λ e. absurd (c.in-Some.ensures.reads (ap Some e)),
-      serves_more g.S.Store c.args.hub.now c.loop-number.hub c.serve_read.new.hub c.args.conn (Some c.in-Some.end) c.loop-number._number more.0
-          (g.R.Read.remaining c.args.reader.now) (g.R.Read.remaining c.loop-number.reader) (g.R.Read.remaining c.serve_read.new.reader)
-          (g.W.Write.contents c.args.writer.now) (g.W.Write.contents c.loop-number.writer) (g.W.Write.contents c.serve_read.new.writer) c.loop-number.invariant.served more.2,
+      serves_more g.S.Store c.args.conn (Some c.in-Some.end) c.loop-number._number more.0 c.loop-number.invariant.served more.2,
     )
 
 pub loop-number-preserved : goal.loop-number-preserved
 loop-number-preserved g c =
     let more = c.serve_read.ensures.served in
     let one : more.0 ≡ 1 = more.1 c.in_default.is in
-    let next = subst (λ (e : Option ServiceEnd). Serves g.S.Store c.loop-number.hub c.args.conn e more.0 (g.R.Read.remaining c.loop-number.reader) (g.R.Read.remaining c.serve_read.new.reader)
-    (g.W.Write.contents c.loop-number.writer) (g.W.Write.contents c.serve_read.new.writer) c.serve_read.new.hub) c.in_default.is more.2 in
-    let all = serves_more g.S.Store c.args.hub.now c.loop-number.hub c.serve_read.new.hub c.args.conn None c.loop-number._number more.0
-    (g.R.Read.remaining c.args.reader.now) (g.R.Read.remaining c.loop-number.reader) (g.R.Read.remaining c.serve_read.new.reader)
-    (g.W.Write.contents c.args.writer.now) (g.W.Write.contents c.loop-number.writer) (g.W.Write.contents c.serve_read.new.writer) c.loop-number.invariant.served next in
+    let next = subst (λ (e : Option ServiceEnd). Serves g.S.Store c.args.conn e more.0
+    (record { hub = c.loop-number.hub; input = g.R.Read.remaining c.loop-number.reader; output = g.W.Write.contents c.loop-number.writer })
+    (record { hub = c.serve_read.new.hub; input = g.R.Read.remaining c.serve_read.new.reader; output = g.W.Write.contents c.serve_read.new.writer })) c.in_default.is more.2 in
+    let all = serves_more g.S.Store c.args.conn None c.loop-number._number more.0 c.loop-number.invariant.served next in
     record {
-      served = subst (λ (k : ℕ). Serves g.S.Store c.args.hub.now c.args.conn None (c.loop-number._number + k) (g.R.Read.remaining c.args.reader.now) (g.R.Read.remaining c.serve_read.new.reader)
-          (g.W.Write.contents c.args.writer.now) (g.W.Write.contents c.serve_read.new.writer) c.serve_read.new.hub) one all;
+      served = subst (λ (k : ℕ). Serves g.S.Store c.args.conn None (c.loop-number._number + k)
+          (record { hub = c.args.hub.now; input = g.R.Read.remaining c.args.reader.now; output = g.W.Write.contents c.args.writer.now })
+          (record { hub = c.serve_read.new.hub; input = g.R.Read.remaining c.serve_read.new.reader; output = g.W.Write.contents c.serve_read.new.writer })) one all;
       room = c.in_default.ensures.room;
       configuration = c.in_default.ensures.configuration ∙ c.loop-number.invariant.configuration;
       onward = goes_on_then g.S.Store c.args.hub.now.node.store c.loop-number.hub.node.store c.serve_read.new.hub.node.store c.loop-number.invariant.onward c.in_default.ensures.onward;

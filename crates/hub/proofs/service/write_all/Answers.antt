@@ -1,6 +1,6 @@
 use Rattle.std.proofs.Common.{ℕ, List, true, false, subst, arith}
-use Rattle.streams.proofs.Taken.{HasTaken, taken_none, taken_all}
-use Rattle.streams.specs.Writing.{Takes}
+use Rattle.couch_http.proofs.Taken.{HasTaken, taken_none, taken_all}
+use Rattle.couch_http.specs.Writing.{Takes}
 use Rattle.hub.proofs.ServiceBytes.{reply_short, reply_whole, replies_over}
 use Rattle.hub.specs.Service.{bytes_of}
 use Rattle.hub.proofs.service.write_all.Goals as goal

@@ -1,5 +1,5 @@
 use Rattle.std.proofs.Common.{drop}
-use Rattle.streams.proofs.Taken.{HasTaken}
+use Rattle.couch_http.proofs.Taken.{HasTaken}
 use Rattle.hub.specs.Service.{bytes_of}
 use Rattle.hub.proofs.service.write_all.Given as goal
 

@@ -5,7 +5,7 @@ use Rattle.index.proofs.ShownDeclarations.{refused_of}
 use Rattle.index.specs.inner.Seen.{HasLive, shown_by_rows}
 use Rattle.couch_json.specs.View.{view}
 use Rattle.store.specs.Indexes.{queried_document}
-use Rattle.tables.specs.Rows.{history_in, id_of, is_revision_of, shown_revision}
+use Rattle.tables.specs.Rows.{history_in_rows, id_of, is_revision_of, shown_revision}
 use Rattle.tables.specs.Schema.{revs_tree}
 use Rattle.tables.specs.Shown.{IsShownRevision}
 use Rattle.tree.specs.Revision.{Revision}
@@ -22,8 +22,8 @@ returns-clause-finds g c clean store d k own listed live plain =
     ∙ (λ j. map shown_revision (filter (is_revision_of db (named j) (record { number = c.number.ensures.value j; hash = c.hash.ensures.value j })) (trees revs_tree))) in
     let rows : c.deref.result.now ≡ rows_at (id_of d) q = read ∙ ap (λ i. rows_at i q) listed.id in
     let seen = winner_seen trees store.laid d k q listed.winner live plain in
-    let shown : shown_by_rows (id_of d) q (rows_at (id_of d) q) ≡ queried_document (id_of d) (history_in (trees revs_tree) db (id_of d)) =
-    subst (λ n. shown_by_rows (id_of d) q (map shown_revision (filter (is_revision_of n (id_of d) q) (trees revs_tree))) ≡ queried_document (id_of d) (history_in (trees revs_tree) n (id_of d))) own seen in
+    let shown : shown_by_rows (id_of d) q (rows_at (id_of d) q) ≡ queried_document (id_of d) (history_in_rows (trees revs_tree) db (id_of d)) =
+    subst (λ n. shown_by_rows (id_of d) q (map shown_revision (filter (is_revision_of n (id_of d) q) (trees revs_tree))) ≡ queried_document (id_of d) (history_in_rows (trees revs_tree) n (id_of d))) own seen in
     if_ok c.show_first.result
     (λ found is. live_is c.args.listed.now.id q c.deref.result.now (view found) is ∙ (λ j. shown_by_rows (listed.id j) q (rows j)) ∙ shown) c.show_first.ensures.ok
 

@@ -1,4 +1,4 @@
-use Rattle.transactions.proofs.Lemmas.{CommitFault, Database, Err, HasCleanDisk, HistoryContent, IfErr, IsUnwritten, Result, ap, arith, asks_then, history_in, keeps_then, revs_tree, rules, state, subst, sym, ◌∙◌, ◌≡◌}
+use Rattle.transactions.proofs.Lemmas.{CommitFault, Database, Err, HasCleanDisk, HistoryContent, IfErr, IsUnwritten, Result, ap, arith, asks_then, history_in_rows, keeps_then, revs_tree, rules, state, subst, sym, ◌∙◌, ◌≡◌}
 use Rattle.transactions.proofs.Common.{None}
 use Rattle.transactions.proofs.IndexSteps.{with_winner}
 use Rattle.transactions.proofs.IndexRests.{refused_of}
@@ -18,7 +18,7 @@ returns-in_err-rebuild-clause-steps g c declares sees design =
     let mid = state g.S.Store c.find_winning.new.tx.conn.now in
     let end = state g.S.Store last in
     let db = c.args.db.now in
-    let find = c.in_ok-history.ensures in
+    let find = c.in_ok-history.ensures.finds in
     let e = c.in_err-rebuild.ensures.rebuilds declares sees in
     let fault = of_index_fault c.in_err-rebuild.field-0.0 in
     let is : c.from_residual-in_err-rebuild.result ≡ Err fault = search rules in
@@ -36,7 +36,7 @@ returns-in_err-rebuild-clause-steps g c declares sees design =
 
 pub returns-in_err-rebuild-clause-asks : goal.returns-in_err-rebuild-clause-asks
 returns-in_err-rebuild-clause-asks g c =
-    asks_then (state g.S.Store c.args.tx.now.conn.now) (state g.S.Store c.find_winning.new.tx.conn.now) (state g.S.Store c.rebuild.new.tx.conn.now) c.in_ok-history.ensures.asks
+    asks_then (state g.S.Store c.args.tx.now.conn.now) (state g.S.Store c.find_winning.new.tx.conn.now) (state g.S.Store c.rebuild.new.tx.conn.now) c.in_ok-history.ensures.finds.asks
     (c.in_err-rebuild.ensures.rebuilds (λ db design name. None) (λ db id. None)).asks
 
 pub returns-in_err-rebuild-clause-err : goal.returns-in_err-rebuild-clause-err
@@ -46,7 +46,7 @@ returns-in_err-rebuild-clause-err g c declares sees =
     let last = c.rebuild.new.tx.conn.now in
     let mid = state g.S.Store between in
     let db = c.args.db.now in
-    let find = c.in_ok-history.ensures in
+    let find = c.in_ok-history.ensures.finds in
     let e = c.in_err-rebuild.ensures in
     let fault = c.in_err-rebuild.field-0.0 in
     let Fit : Database → Type 0 = IsRebuildable declares sees db in
@@ -63,7 +63,7 @@ returns-in_err-rebuild-clause-err g c declares sees =
 
 pub returns-clause-asks : goal.returns-clause-asks
 returns-clause-asks g c =
-    asks_then (state g.S.Store c.args.tx.now.conn.now) (state g.S.Store c.find_winning.new.tx.conn.now) (state g.S.Store c.rebuild.new.tx.conn.now) c.in_ok-history.ensures.asks
+    asks_then (state g.S.Store c.args.tx.now.conn.now) (state g.S.Store c.find_winning.new.tx.conn.now) (state g.S.Store c.rebuild.new.tx.conn.now) c.in_ok-history.ensures.finds.asks
     (c.in_ok-rebuild.ensures.rebuilds (λ db design name. None) (λ db id. None)).asks
 
 pub returns-clause-steps : goal.returns-clause-steps
@@ -73,9 +73,9 @@ returns-clause-steps g c declares sees design =
     let end = state g.S.Store c.rebuild.new.tx.conn.now in
     let db = c.args.db.now in
     let id = c.args.id.now in
-    let find = c.in_ok-history.ensures in
+    let find = c.in_ok-history.ensures.finds in
     let e = c.in_ok-rebuild.ensures.rebuilds declares sees in
-    let h : HistoryContent = history_in (old.now.trees revs_tree) db id in
+    let h : HistoryContent = history_in_rows (old.now.trees revs_tree) db id in
     record {
       ok = λ clean fit.
           let mid-clean : HasCleanDisk mid = omega (arith, e.asks.survives.clean, clean) in

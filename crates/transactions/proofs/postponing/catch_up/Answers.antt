@@ -30,7 +30,7 @@ returns-in_err-redeclare_postponed-clause-err g c =
     let fault = c.in_err-redeclare_postponed.field-0.0 in
     let is : c.from_residual.result ≡ Err fault = search rules in
     subst (λ (r : Result (Vec Declaration Global) CommitFault). IfErr r (IsUnwritten (ids ≢ [] → Fit))) (sym is)
-    (unwritten_of Fit (ids ≢ [] → Fit) fault (λ it. it (some_waited ids (λ none. let no : true ≡ false = sym (c.is_empty.ensures.1 none) ∙ c.if-is_empty.false in cc))) c.in_err-redeclare_postponed.ensures.err)
+    (unwritten_of Fit (ids ≢ [] → Fit) fault (λ it. it (some_waited ids (λ none. let no : true ≡ false = sym (c.is_empty.ensures.1 none) ∙ c.if-is_empty.false in cc))) c.in_err-redeclare_postponed.ensures.makes.err)
 
 pub returns-clause-ok : goal.returns-clause-ok
 returns-clause-ok g c clean was every =
@@ -40,7 +40,7 @@ returns-clause-ok g c clean was every =
     let db = c.args.db.now in
     let list = c.list_unknown.ensures in
     let mid-clean : HasCleanDisk mid = omega (arith, list.asks.survives.clean, clean) in
-    let made = c.in_ok-redeclare_postponed.ensures.steps.ok mid-clean was in
+    let made = c.in_ok-redeclare_postponed.ensures.makes.steps.ok mid-clean was in
     let store = store_still old.now mid.now was.store made.only in
     if_both c.list_unknown.result
     (λ (all : Vec Declaration Global) (left : IsLeft mid new) (these : AreAllIndexes (map declared all.items) db mid.now.trees).
@@ -63,7 +63,7 @@ returns-clause-err g c =
     (λ given.
     let it = given (some_waited ids (λ none. let no : true ≡ false = sym (c.is_empty.ensures.1 none) ∙ c.if-is_empty.false in cc)) in
     let mid-clean : HasCleanDisk mid = omega (arith, list.asks.survives.clean, it.0) in
-    let made = c.in_ok-redeclare_postponed.ensures.steps.ok mid-clean it.1 in
+    let made = c.in_ok-redeclare_postponed.ensures.makes.steps.ok mid-clean it.1 in
     (it.0, λ up. (record { store = store_still old.now mid.now it.1.store made.only; indexed = made.indexed }, tt))) h) list.err
 
 pub returns-clause-kept : goal.returns-clause-kept
@@ -71,7 +71,7 @@ returns-clause-kept g c clean has =
     let old = state g.S.Store c.args.tx.now.conn.now in
     let mid = state g.S.Store c.redeclare_postponed.new.tx.conn.now in
     let new = state g.S.Store c.list_unknown.new.tx.conn.now in
-    let s = c.in_ok-redeclare_postponed.ensures.steps in
+    let s = c.in_ok-redeclare_postponed.ensures.makes.steps in
     let list = c.list_unknown.ensures in
     let mid-clean : HasCleanDisk mid = omega (arith, list.asks.survives.clean, clean) in
     keeps_then old mid new (s.kept mid-clean has) ((list.looks (s.keeps mid-clean has)).kept clean)
@@ -81,18 +81,18 @@ returns-clause-inside g c clean has opened within =
     let mid = state g.S.Store c.redeclare_postponed.new.tx.conn.now in
     let new = state g.S.Store c.list_unknown.new.tx.conn.now in
     let ids : List (List ℕ) = c.args.postponed.now.keys in
-    let s = c.in_ok-redeclare_postponed.ensures.steps in
+    let s = c.in_ok-redeclare_postponed.ensures.makes.steps in
     let list = c.list_unknown.ensures in
     let mid-clean : HasCleanDisk mid = omega (arith, list.asks.survives.clean, clean) in
     let went = s.goes_on mid-clean has (opened (some_waited ids (λ none. let no : true ≡ false = sym (c.is_empty.ensures.1 none) ∙ c.if-is_empty.false in cc))) within in
     on_ok c.list_unknown.result (λ (left : IsLeft mid new). left.mode ∙ went.1) (list.stays clean (s.keeps mid-clean has))
 
 pub returns-in_err-redeclare_postponed-clause-kept : goal.returns-in_err-redeclare_postponed-clause-kept
-returns-in_err-redeclare_postponed-clause-kept g c clean has = c.in_err-redeclare_postponed.ensures.steps.kept clean has
+returns-in_err-redeclare_postponed-clause-kept g c clean has = c.in_err-redeclare_postponed.ensures.makes.steps.kept clean has
 
 pub returns-in_err-redeclare_postponed-clause-asks : goal.returns-in_err-redeclare_postponed-clause-asks
-returns-in_err-redeclare_postponed-clause-asks g c = c.in_err-redeclare_postponed.ensures.steps.asks
+returns-in_err-redeclare_postponed-clause-asks g c = c.in_err-redeclare_postponed.ensures.makes.steps.asks
 
 pub returns-clause-asks : goal.returns-clause-asks
 returns-clause-asks g c =
-    asks_then (state g.S.Store c.args.tx.now.conn.now) (state g.S.Store c.redeclare_postponed.new.tx.conn.now) (state g.S.Store c.list_unknown.new.tx.conn.now) c.in_ok-redeclare_postponed.ensures.steps.asks c.list_unknown.ensures.asks
+    asks_then (state g.S.Store c.args.tx.now.conn.now) (state g.S.Store c.redeclare_postponed.new.tx.conn.now) (state g.S.Store c.list_unknown.new.tx.conn.now) c.in_ok-redeclare_postponed.ensures.makes.steps.asks c.list_unknown.ensures.asks

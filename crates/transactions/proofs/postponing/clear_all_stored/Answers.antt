@@ -2,7 +2,7 @@ use Rattle.transactions.proofs.Lemmas.{refl, rules, subst, ◌∙◌}
 use Rattle.transactions.proofs.Common.{CommitFault, Ok}
 use Rattle.index.specs.Declaring.{IsRebuildable}
 use Rattle.index.specs.Steps.{Steps}
-use Rattle.transactions.proofs.DesignTurns.{clearing_begins, clearing_one_failed, clearing_one_refused, one_more_cleared, still_within, within_all}
+use Rattle.transactions.proofs.DesignTurns.{clearing_begins, clearing_one_stopped, one_more_cleared, still_within, within_all}
 use Rattle.transactions.specs.inner.Postponing.{AreClearedAsStored}
 use Rattle.transactions.proofs.postponing.clear_all_stored.Goals as goal
 
@@ -29,16 +29,12 @@ loop-id-preserved g c =
 pub returns-in_err-clear_stored-clause-clears : goal.returns-in_err-clear_stored-clause-clears
 returns-in_err-clear_stored-clause-clears g c declares sees =
     let inv = c.loop-id.invariant in
-    clearing_one_failed g.S.Store c.args.db.now c.args.designs.now.keys c.loop-id.id-iterator c.in-Some.id.now c.next.new.self c.in-Some.ensures.steps inv.within c.args.tx.now.conn.now c.loop-id.tx.conn.now c.clear_stored.new.tx.conn.now
+    clearing_one_stopped g.S.Store c.args.db.now c.args.designs.now.keys c.loop-id.id-iterator c.in-Some.id.now c.next.new.self c.in-Some.ensures.steps inv.within c.args.tx.now.conn.now c.loop-id.tx.conn.now c.clear_stored.new.tx.conn.now
     inv.so_far declares sees c.in_err-clear_stored.field-0.0 c.from_residual.result (search rules) c.in_err-clear_stored.ensures.clears
-
-pub returns-in_err-clear_stored-clause-err : goal.returns-in_err-clear_stored-clause-err
-returns-in_err-clear_stored-clause-err g c declares sees =
-    let inv = c.loop-id.invariant in
-    clearing_one_refused g.S.Store c.args.db.now c.args.designs.now.keys c.loop-id.id-iterator c.in-Some.id.now c.next.new.self c.in-Some.ensures.steps inv.within c.args.tx.now.conn.now c.loop-id.tx.conn.now c.clear_stored.new.tx.conn.now
-    inv.so_far declares sees c.in_err-clear_stored.field-0.0 c.from_residual.result (search rules) c.in_err-clear_stored.ensures.clears c.in_err-clear_stored.ensures.err
 
 pub returns-clause-clears : goal.returns-clause-clears
 returns-clause-clears g c declares sees =
+    let all =
     subst (λ l. Steps {X = Unit {0}} {E = CommitFault} g.S.Store (IsRebuildable declares sees c.args.db.now) (AreClearedAsStored declares sees c.args.db.now c.args.designs.now.keys l) c.args.tx.now.conn.now c.loop-id.tx.conn.now (Ok tt))
-    c.in-None.ensures.steps.0 (c.loop-id.invariant.so_far declares sees)
+    c.in-None.ensures.steps.0 (c.loop-id.invariant.so_far declares sees) in
+    record { steps = all; err = tt }

@@ -2,7 +2,7 @@ use Rattle.transactions.proofs.Lemmas.{map, refl, rules, subst, ◌∙◌}
 use Rattle.transactions.proofs.Common.{CommitFault, Ok}
 use Rattle.index.specs.Shown.{declared}
 use Rattle.index.specs.Steps.{Steps}
-use Rattle.transactions.proofs.DesignTurns.{declaring_begins, declaring_one_failed, declaring_one_refused, one_more_declared, still_within, within_all}
+use Rattle.transactions.proofs.DesignTurns.{declaring_begins, declaring_one_stopped, one_more_declared, still_within, within_all}
 use Rattle.transactions.specs.inner.Postponing.{AreDeclaredAsStored, AreToDeclare}
 use Rattle.transactions.proofs.postponing.declare_all_stored.Goals as goal
 
@@ -29,18 +29,13 @@ loop-id-preserved g c =
 pub returns-in_err-declare_stored-clause-declares : goal.returns-in_err-declare_stored-clause-declares
 returns-in_err-declare_stored-clause-declares g c sees =
     let inv = c.loop-id.invariant in
-    declaring_one_failed g.S.Store c.args.db.now c.args.designs.now.keys c.loop-id.id-iterator c.in-Some.id.now c.next.new.self c.in-Some.ensures.steps inv.within c.args.tx.now.conn.now c.loop-id.tx.conn.now c.declare_stored.new.tx.conn.now
+    declaring_one_stopped g.S.Store c.args.db.now c.args.designs.now.keys c.loop-id.id-iterator c.in-Some.id.now c.next.new.self c.in-Some.ensures.steps inv.within c.args.tx.now.conn.now c.loop-id.tx.conn.now c.declare_stored.new.tx.conn.now
     (map declared c.args.fresh.now.items) (map declared c.loop-id.fresh.items) inv.so_far (map declared c.declare_stored.new.fresh.items) sees c.in_err-declare_stored.field-0.0 c.from_residual.result (search rules)
     c.in_err-declare_stored.ensures.declares
 
-pub returns-in_err-declare_stored-clause-err : goal.returns-in_err-declare_stored-clause-err
-returns-in_err-declare_stored-clause-err g c sees =
-    let inv = c.loop-id.invariant in
-    declaring_one_refused g.S.Store c.args.db.now c.args.designs.now.keys c.loop-id.id-iterator c.in-Some.id.now c.next.new.self c.in-Some.ensures.steps inv.within c.args.tx.now.conn.now c.loop-id.tx.conn.now c.declare_stored.new.tx.conn.now
-    (map declared c.args.fresh.now.items) (map declared c.loop-id.fresh.items) inv.so_far (map declared c.declare_stored.new.fresh.items) sees c.in_err-declare_stored.field-0.0 c.from_residual.result (search rules)
-    c.in_err-declare_stored.ensures.declares c.in_err-declare_stored.ensures.err
-
 pub returns-clause-declares : goal.returns-clause-declares
 returns-clause-declares g c sees =
+    let all =
     subst (λ l. Steps {X = Unit {0}} {E = CommitFault} g.S.Store (AreToDeclare sees c.args.db.now c.args.designs.now.keys (map declared c.args.fresh.now.items))
-    (AreDeclaredAsStored sees c.args.db.now c.args.designs.now.keys l (map declared c.loop-id.fresh.items)) c.args.tx.now.conn.now c.loop-id.tx.conn.now (Ok tt)) c.in-None.ensures.steps.0 (c.loop-id.invariant.so_far sees)
+    (AreDeclaredAsStored sees c.args.db.now c.args.designs.now.keys l (map declared c.loop-id.fresh.items)) c.args.tx.now.conn.now c.loop-id.tx.conn.now (Ok tt)) c.in-None.ensures.steps.0 (c.loop-id.invariant.so_far sees) in
+    record { steps = all; err = tt }

@@ -1,10 +1,10 @@
-use Rattle.transactions.proofs.Lemmas.{ap, arith, refl, rules, state, subst, ◌+◌, ◌∙◌, ◌≡◌, ⊤}
+use Rattle.transactions.proofs.Lemmas.{ap, arith, refl, rules, state, subst, ◌+◌, ◌∙◌, ◌≡◌}
 use Rattle.transactions.proofs.Common.{Err, Ok, [], drop, get_or, length, length-map}
 use Rattle.std.proofs.Common.{◌≤◌}
 use Rattle.std.proofs.lemmas.List.{drop_all}
 use Rattle.transactions.proofs.Redeclared.{next_done, next_row, none_redeclared, unwritten_as, unwritten_then}
 use Rattle.transactions.specs.Renewing.{AreRedeclared, AreToRedeclare, IsToRedeclare}
-use Rattle.index.proofs.StepLemmas.{steps_none, steps_so, steps_stop, steps_then}
+use Rattle.index.proofs.StepLemmas.{steps_failed, steps_none, steps_so, steps_then}
 use Rattle.index.specs.Steps.{AreFit}
 use Rattle.tables.specs.Listings.{named_document}
 use Rattle.transactions.proofs.renewing.redeclare_rows.Goals as goal
@@ -32,43 +32,13 @@ loop-row-preserved g c =
           let d = get_or docs i [] in
           let left = drop (i + 1) docs in
           steps_then g.S.Store (AreToRedeclare rows docs) (IsToRedeclare s d left) (AreRedeclared (drop i docs)) (AreRedeclared left) (AreRedeclared left) c.args.tx.now.conn.now c.loop-row.tx.conn.now c.redeclare_row.new.tx.conn.now tt (Ok tt)
-          (inv.so_far docs) (c.in_ok-redeclare_row.ensures.steps d left)
+          (inv.so_far docs) (c.in_ok-redeclare_row.ensures.makes d left).steps
           (λ was fit made. next_row rows docs i s c.loop-row-test.true c.row-item.is a b fit made)
           (λ was fit made got. next_done rows docs i s c.loop-row-test.true c.row-item.is a b fit made e got);
     }
 
-pub returns-in_err-redeclare_row-clause-steps : goal.returns-in_err-redeclare_row-clause-steps
-returns-in_err-redeclare_row-clause-steps g c docs =
-    let inv = c.loop-row.invariant in
-    let a = (state g.S.Store c.args.tx.now.conn.now).now in
-    let b = (state g.S.Store c.loop-row.tx.conn.now).now in
-    let rows = c.args.rows.now in
-    let i = c.loop-row.row-index in
-    let s = c.row-item.result in
-    let d = get_or docs i [] in
-    let left = drop (i + 1) docs in
-    let fault = c.in_err-redeclare_row.field-0.0 in
-    let is : c.from_residual.result ≡ Err fault = search rules in
-    steps_stop g.S.Store {X = Unit {0}} (AreToRedeclare rows docs) (λ p q. ⊤) (AreRedeclared []) c.args.tx.now.conn.now c.redeclare_row.new.tx.conn.now fault fault c.from_residual.result is
-    (steps_then g.S.Store (AreToRedeclare rows docs) (IsToRedeclare s d left) (AreRedeclared (drop i docs)) (AreRedeclared left) (λ p q. ⊤) c.args.tx.now.conn.now c.loop-row.tx.conn.now c.redeclare_row.new.tx.conn.now tt (Err fault)
-    (inv.so_far docs) (c.in_err-redeclare_row.ensures.steps d left)
-    (λ was fit made. next_row rows docs i s c.loop-row-test.true c.row-item.is a b fit made) (λ was fit made got. tt))
-
-pub returns-clause-steps : goal.returns-clause-steps
-returns-clause-steps g c docs =
-    let a = (state g.S.Store c.args.tx.now.conn.now).now in
-    let b = (state g.S.Store c.loop-row.tx.conn.now).now in
-    let rows = c.args.rows.now in
-    let i = c.loop-row.row-index in
-    let none : length rows ≤ i = omega (arith, c.loop-row-test.false) in
-    steps_so g.S.Store (AreToRedeclare rows docs) (AreRedeclared (drop i docs)) (AreRedeclared []) c.args.tx.now.conn.now c.loop-row.tx.conn.now (Ok tt) (c.loop-row.invariant.so_far docs)
-    (λ fit made.
-    let size : length rows ≡ length docs = ap length fit.shown_is ∙ length-map docs named_document in
-    let end : length docs ≤ i = omega (arith, none, size) in
-    subst (λ l. AreRedeclared l a b) (drop_all i docs end) made)
-
-pub returns-in_err-redeclare_row-clause-err : goal.returns-in_err-redeclare_row-clause-err
-returns-in_err-redeclare_row-clause-err g c docs =
+pub returns-in_err-redeclare_row-clause-makes : goal.returns-in_err-redeclare_row-clause-makes
+returns-in_err-redeclare_row-clause-makes g c docs =
     let inv = c.loop-row.invariant in
     let first = c.args.tx.now.conn.now in
     let between = c.loop-row.tx.conn.now in
@@ -81,8 +51,28 @@ returns-in_err-redeclare_row-clause-err g c docs =
     let d = get_or docs i [] in
     let left = drop (i + 1) docs in
     let fault = c.in_err-redeclare_row.field-0.0 in
+    let makes = c.in_err-redeclare_row.ensures.makes d left in
     let is : c.from_residual.result ≡ Err fault = search rules in
-    unwritten_as (AreFit g.S.Store (AreToRedeclare rows docs) first last) c.from_residual.result fault is
-    (unwritten_then g.S.Store (AreToRedeclare rows docs) (IsToRedeclare s d left) (AreRedeclared (drop i docs)) first between last tt fault
-    (inv.so_far docs) (c.in_err-redeclare_row.ensures.steps d left).asks
-    (λ was fit made. next_row rows docs i s c.loop-row-test.true c.row-item.is a b fit made) (c.in_err-redeclare_row.ensures.err d left))
+    record {
+      steps = steps_failed g.S.Store {X = Unit {0}} (AreToRedeclare rows docs) (IsToRedeclare s d left) (AreRedeclared (drop i docs)) (AreRedeclared left) (AreRedeclared []) first between last tt fault fault c.from_residual.result is
+          (inv.so_far docs) makes.steps (λ was fit made. next_row rows docs i s c.loop-row-test.true c.row-item.is a b fit made);
+      err = unwritten_as (AreFit g.S.Store (AreToRedeclare rows docs) first last) c.from_residual.result fault is
+          (unwritten_then g.S.Store (AreToRedeclare rows docs) (IsToRedeclare s d left) (AreRedeclared (drop i docs)) first between last tt fault (inv.so_far docs) makes.steps.asks
+          (λ was fit made. next_row rows docs i s c.loop-row-test.true c.row-item.is a b fit made) makes.err);
+    }
+
+pub returns-clause-makes : goal.returns-clause-makes
+returns-clause-makes g c docs =
+    let a = (state g.S.Store c.args.tx.now.conn.now).now in
+    let b = (state g.S.Store c.loop-row.tx.conn.now).now in
+    let rows = c.args.rows.now in
+    let i = c.loop-row.row-index in
+    let none : length rows ≤ i = omega (arith, c.loop-row-test.false) in
+    record {
+      steps = steps_so g.S.Store (AreToRedeclare rows docs) (AreRedeclared (drop i docs)) (AreRedeclared []) c.args.tx.now.conn.now c.loop-row.tx.conn.now (Ok tt) (c.loop-row.invariant.so_far docs)
+          (λ fit made.
+          let size : length rows ≡ length docs = ap length fit.shown_is ∙ length-map docs named_document in
+          let end : length docs ≤ i = omega (arith, none, size) in
+          subst (λ l. AreRedeclared l a b) (drop_all i docs end) made);
+      err = tt;
+    }

@@ -26,15 +26,15 @@ returns-clause-steps g c =
     let last = c.redeclare_all.new.tx.conn.now in
     let h = c.in_ok-renew_tables.ensures in
     steps_then g.S.Store {E = Error} IsFirstStore HasNoIndexes IsRenewed (AreRedeclared []) IsCarriedOver first between last c.in_ok-renew_tables.field-0 c.redeclare_all.result
-    (steps_renewed g.S.Store first between (Ok c.in_ok-renew_tables.field-0) h.ok h.keeps h.inside h.proceeds) c.redeclare_all.ensures.steps
+    (steps_renewed g.S.Store first between (Ok c.in_ok-renew_tables.field-0) h.ok h.keeps h.inside h.proceeds) c.redeclare_all.ensures.makes.steps
     (λ was fit made. renewed_bare (state g.S.Store first).now (state g.S.Store between).now made)
     (λ was fit made got. carried (state g.S.Store first).now (state g.S.Store between).now (state g.S.Store last).now made got)
 
 pub returns-clause-inside : goal.returns-clause-inside
 returns-clause-inside g c clean has =
     let h = c.in_ok-renew_tables.ensures in
-    let before : HasCleanDisk (state g.S.Store c.renew_tables.new.tx.conn.now) = omega (arith, c.redeclare_all.ensures.steps.asks.survives.clean, clean) in
-    c.redeclare_all.ensures.steps.goes_on clean (h.keeps before has) (h.inside before).is_open (h.inside before).inside
+    let before : HasCleanDisk (state g.S.Store c.renew_tables.new.tx.conn.now) = omega (arith, c.redeclare_all.ensures.makes.steps.asks.survives.clean, clean) in
+    c.redeclare_all.ensures.makes.steps.goes_on clean (h.keeps before has) (h.inside before).is_open (h.inside before).inside
 
 pub returns-clause-err : goal.returns-clause-err
 returns-clause-err g c =
@@ -45,6 +45,6 @@ returns-clause-err g c =
     if_err c.redeclare_all.result
     (λ e. unwritten_of (AreFit g.S.Store HasNoIndexes between last) (WasFit g.S.Store IsFirstStore first last) e
     (λ it.
-    let before : HasCleanDisk (state g.S.Store between) = omega (arith, c.redeclare_all.ensures.steps.asks.survives.clean, it.0) in
+    let before : HasCleanDisk (state g.S.Store between) = omega (arith, c.redeclare_all.ensures.makes.steps.asks.survives.clean, it.0) in
     let was = it.1 ((h.proceeds.kept before).was_open (h.inside before).is_open) in
-    (it.0, renewed_bare (state g.S.Store first).now (state g.S.Store between).now (h.ok before was)))) c.redeclare_all.ensures.err
+    (it.0, renewed_bare (state g.S.Store first).now (state g.S.Store between).now (h.ok before was)))) c.redeclare_all.ensures.makes.err

@@ -3,7 +3,7 @@ use Rattle.couch_http.specs.Message.{message_of}
 use Rattle.hub.specs.Answering.{StoreSteps}
 use Rattle.repl.specs.Asks.{pass_of}
 use Rattle.repl.specs.Passes.{asked_of}
-use Rattle.world.specs.OneEvent.{transfer_of}
+use Rattle.world.specs.inner.Turning.{transfer_of}
 use Rattle.world.proofs.Exchanges.{lost_source, lost_target}
 use Rattle.world.proofs.Onward.{nodes_themselves}
 use Rattle.world.proofs.exchanging.make_exchange.Goals as goal

@@ -1,10 +1,12 @@
 use Rattle.std.proofs.Common.{Some, ap, sym, ◌∙◌, ◌≡◌}
 use Rattle.std.specs.FinMap as finite
+use Rattle.couch_json.specs.Parts.{is_there_and}
+use Rattle.tree.specs.History.{is_known}
 use Rattle.store.specs.Contents.{Contents}
 use Rattle.store.specs.Database.{Database, history_at}
 use Rattle.store.specs.Writing.{addition_of}
-use Rattle.write.specs.Admission.{is_known_if_any, rule_refusal}
-use Rattle.write.specs.declared.document.Sent.{Sent}
+use Rattle.write.specs.Admission.{rule_refusal}
+use Rattle.write.specs.declared.document.ParsedDocument.{ParsedDocument}
 use Rattle.write.proofs.FollowedRules.{edit_made, there_is}
 use Rattle.write.proofs.Plannings.{if_there}
 use Rattle.write.proofs.following.judge_next.Goals as goal
@@ -21,7 +23,7 @@ returns-clause-ok g c honest =
     let same = c.in_ok-is_known.ensures.reads.same before in
     there_is (finite.get (S.contents c.args.store.now) c.args.db.now) (λ d is.
     let h = history_at d id in
-    let told = if_there (λ (e : Database). c.in_ok-is_known.field-0 ≡ is_known_if_any (history_at e id) next) (finite.get (S.contents c.args.store.now) c.args.db.now) d is (c.in_ok-is_known.ensures.known before) in
+    let told = if_there (λ (e : Database). c.in_ok-is_known.field-0 ≡ is_there_and (is_known (history_at e id)) next) (finite.get (S.contents c.args.store.now) c.args.db.now) d is (c.in_ok-is_known.ensures.known before) in
     let again : finite.get (S.contents c.is_known.new.store) c.args.db.now ≡ Some d = ap (λ (x : Contents). finite.get x c.args.db.now) same ∙ is in
-    let ruled = if_there (λ (e : Database). (s : Sent) → rule_refusal terms id (history_at e id) s parent ≡ rule_refusal terms id c.in_ok-history.history s parent) (finite.get (S.contents c.is_known.new.store) c.args.db.now) d again (c.in_ok-history.ensures.ruled honest) sent in
+    let ruled = if_there (λ (e : Database). (s : ParsedDocument) → rule_refusal terms id (history_at e id) s parent ≡ rule_refusal terms id c.in_ok-history.history s parent) (finite.get (S.contents c.is_known.new.store) c.args.db.now) d again (c.in_ok-history.ensures.ruled honest) sent in
     edit_made terms id h sent parent next c.in_ok-rev.rev (addition_of c.in_ok-make_write.field-0) c.in_ok-next.ensures (sym told ∙ c.if-branch.false) (ruled ∙ c.in_ok-rev.ensures.unruled) c.in_ok-rev.ensures.ok c.in_ok-make_write.ensures)

@@ -9,7 +9,7 @@ use Rattle.tree.specs.History.{HistoryContent, with_new}
 use Rattle.tree.specs.declared.entry.Held.{Held}
 use Rattle.write.specs.Admission.{rule_refusal}
 use Rattle.write.proofs.FollowedRules.{followed_rule, there_is}
-use Rattle.write.specs.declared.document.Sent.{Sent}
+use Rattle.write.specs.declared.document.ParsedDocument.{ParsedDocument}
 use Rattle.write.proofs.Unruled.{design_unruled, no_refusal}
 use Rattle.write.proofs.following.read_followed.Goals.{then-is_design-via-then-is_design, then-is_design-via-else-is_design+then-has_no_rules}
 use Rattle.write.proofs.following.read_followed.Goals as goal
@@ -18,7 +18,7 @@ pub returns-then-is_design-clause-ruled : goal.returns-then-is_design-clause-rul
 returns-then-is_design-clause-ruled g c honest =
     let terms = c.args.terms.now in
     let id = c.args.id.now in
-    let unruled : (h : HistoryContent) (sent : Sent) → rule_refusal terms id h sent c.args.rev ≡ None = elim c.then-is_design.branch [
+    let unruled : (h : HistoryContent) (sent : ParsedDocument) → rule_refusal terms id h sent c.args.rev ≡ None = elim c.then-is_design.branch [
       | then-is_design-via-then-is_design w ↦ λ h sent. design_unruled terms id h sent c.args.rev (sym c.is_design.ensures ∙ w.if-is_design.true)
       | then-is_design-via-else-is_design+then-has_no_rules w ↦ λ h sent. no_refusal terms id h sent c.args.rev (sym w.has_no_rules.ensures ∙ w.if-has_no_rules.true)
     ] in

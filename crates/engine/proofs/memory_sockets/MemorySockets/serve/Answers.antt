@@ -6,11 +6,10 @@ pub returns : goal.returns
 returns g c =
     let s = c.serve_all.ensures.served in
     record {
-      acts = s.acts;
-      said = s.said;
+      deeds = s.deeds;
       standings = s.standings;
       logs = s.logs;
       runs = s.runs;
-      takes = λ conn. takes_all g.S.Store c.args.hub.now s.acts s.said (record { hub = c.serve_all.new.hub; standings = s.standings }) conn s.runs;
-      handles = λ honest. handles_all g.S.Store c.args.hub.now s.acts s.said (record { hub = c.serve_all.new.hub; standings = s.standings }) s.runs honest;
+      takes = λ conn. takes_all g.S.Store c.args.hub.now s.deeds (record { hub = c.serve_all.new.hub; standings = s.standings }) conn s.runs;
+      handles = λ honest. handles_all g.S.Store c.args.hub.now s.deeds (record { hub = c.serve_all.new.hub; standings = s.standings }) s.runs honest;
     }

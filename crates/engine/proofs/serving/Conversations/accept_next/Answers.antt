@@ -1,16 +1,19 @@
-use Rattle.engine.proofs.Steps.{turns_accepted, turns_none, turns_opened}
+use Rattle.std.proofs.Common.{refl, arith}
+use Rattle.engine.proofs.Deeds.{goes_none}
+use Rattle.engine.proofs.Steps.{goes_accepted, goes_opened}
 use Rattle.engine.proofs.serving.Conversations.accept_next.Goals as goal
 
-pub returns-in-Never-clause-turns : goal.returns-in-Never-clause-turns
-returns-in-Never-clause-turns g c = λ most lt. turns_none g.S.Store most c.args.self.now.accepted c.args.hub.now c.args.self.now.conversations.entries (g.W.Sockets.log c.args.sockets.now) (g.W.Sockets.log c.accept.new.self) c.in-Never.ensures
+pub returns-in-Never-clause-goes_on : goal.returns-in-Never-clause-goes_on
+returns-in-Never-clause-goes_on g c = λ most lt. goes_none g.S.Store refl refl (omega arith) c.in-Never.ensures
 
-pub returns-in-Reset-clause-turns : goal.returns-in-Reset-clause-turns
-returns-in-Reset-clause-turns g c = λ most lt. turns_accepted g.S.Store most c.args.self.now.accepted c.args.hub.now c.args.self.now.conversations.entries (g.W.Sockets.log c.args.sockets.now) (g.W.Sockets.log c.accept.new.self) c.in-Reset.ensures
+pub returns-in-Reset-clause-goes_on : goal.returns-in-Reset-clause-goes_on
+returns-in-Reset-clause-goes_on g c = λ most lt.
+    goes_accepted g.S.Store c.args.hub.now c.args.self.now.conversations.entries c.args.self.now.accepted (g.W.Sockets.log c.args.sockets.now) (g.W.Sockets.log c.accept.new.self) c.in-Reset.ensures
 
-pub returns-in-Later-clause-turns : goal.returns-in-Later-clause-turns
-returns-in-Later-clause-turns g c = λ most lt. turns_none g.S.Store most c.args.self.now.accepted c.args.hub.now c.args.self.now.conversations.entries (g.W.Sockets.log c.args.sockets.now) (g.W.Sockets.log c.accept.new.self) c.in-Later.ensures
+pub returns-in-Later-clause-goes_on : goal.returns-in-Later-clause-goes_on
+returns-in-Later-clause-goes_on g c = λ most lt. goes_none g.S.Store refl refl (omega arith) c.in-Later.ensures
 
-pub returns-in-One-clause-turns : goal.returns-in-One-clause-turns
-returns-in-One-clause-turns g c = λ most lt.
-    turns_opened g.S.Store most c.args.self.now.accepted c.add.new.self.accepted c.args.hub.now c.add.new.hub c.args.self.now.conversations.entries c.add.new.self.conversations.entries
-    (g.W.Sockets.log c.args.sockets.now) (g.W.Sockets.log c.accept.new.self) (g.W.Sockets.log c.add.new.sockets) c.add.ensures.accepted lt c.in-One.ensures (c.add.ensures.opens most)
+pub returns-in-One-clause-goes_on : goal.returns-in-One-clause-goes_on
+returns-in-One-clause-goes_on g c = λ most lt.
+    goes_opened g.S.Store c.args.hub.now c.add.new.hub c.args.self.now.conversations.entries c.add.new.self.conversations.entries c.args.self.now.accepted c.add.new.self.accepted
+    (g.W.Sockets.log c.args.sockets.now) (g.W.Sockets.log c.accept.new.self) (g.W.Sockets.log c.add.new.sockets) lt c.in-One.ensures (c.add.ensures.goes_on most)

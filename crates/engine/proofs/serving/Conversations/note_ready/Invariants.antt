@@ -1,9 +1,9 @@
 use Rattle.std.proofs.Common.{◌≡◌}
-use Rattle.engine.specs.Moves.{StandAlike}
+use Rattle.engine.specs.inner.Rounds.{standings_of}
 use Rattle.engine.proofs.serving.Conversations.note_ready.Given as goal
 
 abbrev pub invariant-loop-at : goal.invariant-loop-at
 invariant-loop-at g l = record {
-  alike : StandAlike l.initial.self.conversations.entries l.self.conversations.entries;
+  alike : standings_of l.self.conversations.entries ≡ standings_of l.initial.self.conversations.entries;
   accepted : l.self.accepted ≡ l.initial.self.accepted;
 }

@@ -1,30 +1,37 @@
-use Rattle.std.proofs.Common.{arith}
-use Rattle.engine.proofs.Steps.{turns_alike, turns_more, turns_none}
+use Rattle.std.proofs.Common.{refl, arith}
+use Rattle.engine.proofs.Deeds.{goes_more, goes_none}
+use Rattle.engine.proofs.Steps.{goes_alike}
 use Rattle.engine.proofs.serving.Conversations.take_round.Goals as goal
 
-pub returns-in_default-clause-turns : goal.returns-in_default-clause-turns
-returns-in_default-clause-turns g c = turns_none g.S.Store c.args.limits.now.at_once c.args.self.now.accepted c.args.hub.now c.args.self.now.conversations.entries (g.W.Sockets.log c.args.sockets.now) (g.W.Sockets.log c.wait.new.self) c.wait.ensures
+pub returns-in_default-clause-goes_on : goal.returns-in_default-clause-goes_on
+returns-in_default-clause-goes_on g c = goes_none g.S.Store refl refl (omega arith) c.wait.ensures
 
-pub returns-in_err-accept_all-clause-turns : goal.returns-in_err-accept_all-clause-turns
-returns-in_err-accept_all-clause-turns g c =
-    turns_more g.S.Store c.args.limits.now.at_once c.args.self.now.accepted c.note_ready.new.self.accepted c.accept_all.new.self.accepted c.args.hub.now c.args.hub.now c.accept_all.new.hub c.args.self.now.conversations.entries c.note_ready.new.self.conversations.entries c.accept_all.new.self.conversations.entries
-    (g.W.Sockets.log c.args.sockets.now) (g.W.Sockets.log c.wait.new.self) (g.W.Sockets.log c.accept_all.new.sockets) (turns_alike g.S.Store c.args.limits.now.at_once c.args.self.now.accepted c.args.self.now.accepted c.note_ready.new.self.accepted c.args.hub.now c.args.hub.now c.args.self.now.conversations.entries c.args.self.now.conversations.entries c.note_ready.new.self.conversations.entries (g.W.Sockets.log c.args.sockets.now) (g.W.Sockets.log c.wait.new.self)
-    (turns_none g.S.Store c.args.limits.now.at_once c.args.self.now.accepted c.args.hub.now c.args.self.now.conversations.entries (g.W.Sockets.log c.args.sockets.now) (g.W.Sockets.log c.wait.new.self) c.wait.ensures) c.note_ready.ensures.accepted c.note_ready.ensures.alike) c.accept_all.ensures.turns
+pub returns-in_err-accept_all-clause-goes_on : goal.returns-in_err-accept_all-clause-goes_on
+returns-in_err-accept_all-clause-goes_on g c =
+    goes_more g.S.Store
+    (goes_alike g.S.Store c.args.hub.now c.args.hub.now c.args.self.now.conversations.entries c.note_ready.new.self.conversations.entries c.args.self.now.accepted c.note_ready.new.self.accepted
+    (g.W.Sockets.log c.args.sockets.now) (g.W.Sockets.log c.wait.new.self) refl c.note_ready.ensures.alike c.note_ready.ensures.accepted c.wait.ensures)
+    refl c.accept_all.ensures.goes_on
 
-pub returns-then-ticked-clause-turns : goal.returns-then-ticked-clause-turns
-returns-then-ticked-clause-turns g c =
-    turns_more g.S.Store c.args.limits.now.at_once c.args.self.now.accepted c.take_turns.new.self.accepted c.close_late.new.self.accepted c.args.hub.now c.take_turns.new.hub c.close_late.new.hub c.args.self.now.conversations.entries c.take_turns.new.self.conversations.entries c.close_late.new.self.conversations.entries
-    (g.W.Sockets.log c.args.sockets.now) (g.W.Sockets.log c.take_turns.new.sockets) (g.W.Sockets.log c.close_late.new.sockets) (turns_more g.S.Store c.args.limits.now.at_once c.args.self.now.accepted c.accept_all.new.self.accepted c.take_turns.new.self.accepted c.args.hub.now c.accept_all.new.hub c.take_turns.new.hub c.args.self.now.conversations.entries c.accept_all.new.self.conversations.entries c.take_turns.new.self.conversations.entries
-    (g.W.Sockets.log c.args.sockets.now) (g.W.Sockets.log c.accept_all.new.sockets) (g.W.Sockets.log c.take_turns.new.sockets) (turns_more g.S.Store c.args.limits.now.at_once c.args.self.now.accepted c.note_ready.new.self.accepted c.accept_all.new.self.accepted c.args.hub.now c.args.hub.now c.accept_all.new.hub c.args.self.now.conversations.entries c.note_ready.new.self.conversations.entries c.accept_all.new.self.conversations.entries
-    (g.W.Sockets.log c.args.sockets.now) (g.W.Sockets.log c.wait.new.self) (g.W.Sockets.log c.accept_all.new.sockets) (turns_alike g.S.Store c.args.limits.now.at_once c.args.self.now.accepted c.args.self.now.accepted c.note_ready.new.self.accepted c.args.hub.now c.args.hub.now c.args.self.now.conversations.entries c.args.self.now.conversations.entries c.note_ready.new.self.conversations.entries (g.W.Sockets.log c.args.sockets.now) (g.W.Sockets.log c.wait.new.self)
-    (turns_none g.S.Store c.args.limits.now.at_once c.args.self.now.accepted c.args.hub.now c.args.self.now.conversations.entries (g.W.Sockets.log c.args.sockets.now) (g.W.Sockets.log c.wait.new.self) c.wait.ensures) c.note_ready.ensures.accepted c.note_ready.ensures.alike) c.accept_all.ensures.turns) (c.take_turns.ensures.turns c.args.limits.now.at_once)) (c.close_late.ensures.turns c.args.limits.now.at_once)
+pub returns-then-ticked-clause-goes_on : goal.returns-then-ticked-clause-goes_on
+returns-then-ticked-clause-goes_on g c =
+    goes_more g.S.Store
+    (goes_more g.S.Store
+    (goes_more g.S.Store
+    (goes_alike g.S.Store c.args.hub.now c.args.hub.now c.args.self.now.conversations.entries c.note_ready.new.self.conversations.entries c.args.self.now.accepted c.note_ready.new.self.accepted
+    (g.W.Sockets.log c.args.sockets.now) (g.W.Sockets.log c.wait.new.self) refl c.note_ready.ensures.alike c.note_ready.ensures.accepted c.wait.ensures)
+    refl c.accept_all.ensures.goes_on)
+    refl (c.take_turns.ensures.goes_on c.args.limits.now.at_once))
+    refl (c.close_late.ensures.goes_on c.args.limits.now.at_once)
 
-pub returns-else-ticked-clause-turns : goal.returns-else-ticked-clause-turns
-returns-else-ticked-clause-turns g c =
-    turns_more g.S.Store c.args.limits.now.at_once c.args.self.now.accepted c.accept_all.new.self.accepted c.take_turns.new.self.accepted c.args.hub.now c.accept_all.new.hub c.take_turns.new.hub c.args.self.now.conversations.entries c.accept_all.new.self.conversations.entries c.take_turns.new.self.conversations.entries
-    (g.W.Sockets.log c.args.sockets.now) (g.W.Sockets.log c.accept_all.new.sockets) (g.W.Sockets.log c.take_turns.new.sockets) (turns_more g.S.Store c.args.limits.now.at_once c.args.self.now.accepted c.note_ready.new.self.accepted c.accept_all.new.self.accepted c.args.hub.now c.args.hub.now c.accept_all.new.hub c.args.self.now.conversations.entries c.note_ready.new.self.conversations.entries c.accept_all.new.self.conversations.entries
-    (g.W.Sockets.log c.args.sockets.now) (g.W.Sockets.log c.wait.new.self) (g.W.Sockets.log c.accept_all.new.sockets) (turns_alike g.S.Store c.args.limits.now.at_once c.args.self.now.accepted c.args.self.now.accepted c.note_ready.new.self.accepted c.args.hub.now c.args.hub.now c.args.self.now.conversations.entries c.args.self.now.conversations.entries c.note_ready.new.self.conversations.entries (g.W.Sockets.log c.args.sockets.now) (g.W.Sockets.log c.wait.new.self)
-    (turns_none g.S.Store c.args.limits.now.at_once c.args.self.now.accepted c.args.hub.now c.args.self.now.conversations.entries (g.W.Sockets.log c.args.sockets.now) (g.W.Sockets.log c.wait.new.self) c.wait.ensures) c.note_ready.ensures.accepted c.note_ready.ensures.alike) c.accept_all.ensures.turns) (c.take_turns.ensures.turns c.args.limits.now.at_once)
+pub returns-else-ticked-clause-goes_on : goal.returns-else-ticked-clause-goes_on
+returns-else-ticked-clause-goes_on g c =
+    goes_more g.S.Store
+    (goes_more g.S.Store
+    (goes_alike g.S.Store c.args.hub.now c.args.hub.now c.args.self.now.conversations.entries c.note_ready.new.self.conversations.entries c.args.self.now.accepted c.note_ready.new.self.accepted
+    (g.W.Sockets.log c.args.sockets.now) (g.W.Sockets.log c.wait.new.self) refl c.note_ready.ensures.alike c.note_ready.ensures.accepted c.wait.ensures)
+    refl c.accept_all.ensures.goes_on)
+    refl (c.take_turns.ensures.goes_on c.args.limits.now.at_once)
 
 pub returns-then-ticked-clause-accepted : goal.returns-then-ticked-clause-accepted
 returns-then-ticked-clause-accepted g c = omega (arith, c.close_late.ensures.accepted, c.take_turns.ensures.accepted, c.accept_all.ensures.accepted)

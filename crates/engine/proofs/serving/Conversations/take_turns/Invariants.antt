@@ -1,10 +1,11 @@
 use Rattle.std.proofs.Common.{◌≡◌, ℕ}
-use Rattle.engine.specs.Moves.{Turns}
+use Rattle.engine.specs.Conversing.{GoesOnWithin}
+use Rattle.engine.specs.inner.Rounds.{state_of}
 use Rattle.engine.proofs.serving.Conversations.take_turns.Given as goal
 
 abbrev pub invariant-loop-number : goal.invariant-loop-number
 invariant-loop-number g l = record {
-  turns : (most : ℕ) → Turns g.S.Store most l.initial.hub l.initial.self.conversations.entries l.initial.self.accepted (g.W.Sockets.log l.initial.sockets)
-      l.hub l.self.conversations.entries l.self.accepted (g.W.Sockets.log l.sockets);
+  goes_on : (most : ℕ) → GoesOnWithin g.S.Store most (state_of l.initial.hub l.initial.self.conversations.entries l.initial.self.accepted (g.W.Sockets.log l.initial.sockets))
+      (state_of l.hub l.self.conversations.entries l.self.accepted (g.W.Sockets.log l.sockets));
   accepted : l.self.accepted ≡ l.initial.self.accepted;
 }

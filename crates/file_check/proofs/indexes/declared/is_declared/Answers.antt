@@ -3,7 +3,7 @@ use Rattle.std.specs.Prelude.{bytes_eq, option_map}
 use Rattle.sqlite.specs.Held.{state}
 use Rattle.sqlite_value.specs.Order.{bytes, column}
 use Rattle.index.specs.Meaning.{declares_in}
-use Rattle.index.specs.Rows.{design_of, home_of, index_name_of}
+use Rattle.index.specs.Rows.{design_of, database_of_declaration, index_name_of_row}
 use Rattle.file_check.proofs.CheckSteps.{checks_so, checks_stop}
 use Rattle.file_check.proofs.DeclaredRows.{spelled_none, spelled_so}
 use Rattle.file_check.specs.inner.IndexRows.{IsNextDeclaration}
@@ -20,7 +20,7 @@ pub returns-in-Some : goal.returns-in-Some
 returns-in-Some g c r =
     let trees = (state g.S.Store c.args.conn.now).now.trees in
     let F = IsNextDeclaration c.args.row.now r in
-    let fields = declares_in trees (home_of r) (design_of r) (index_name_of r) in
+    let fields = declares_in trees (database_of_declaration r) (design_of r) (index_name_of_row r) in
     let t = string_bytes c.in-Some.text in
     let found : option_map string_bytes c.in_ok-text.field-0 ≡ Some t = search rules in
     let read : c.as_bytes.result.now ≡ t = search rules in
@@ -33,7 +33,7 @@ pub returns-in-None : goal.returns-in-None
 returns-in-None g c r =
     let trees = (state g.S.Store c.args.conn.now).now.trees in
     let F = IsNextDeclaration c.args.row.now r in
-    let fields = declares_in trees (home_of r) (design_of r) (index_name_of r) in
+    let fields = declares_in trees (database_of_declaration r) (design_of r) (index_name_of_row r) in
     let found : option_map string_bytes c.in_ok-text.field-0 ≡ None = search rules in
     checks_so g.S.Store F F (λ trees is. IsAnswer (IsOwnDeclaration trees r) is) (c.in_ok-text.ensures r) (λ fit. fit)
     (λ fit h. spelled_none trees r fit.cells fields refl (subst (Spells fields) found h))

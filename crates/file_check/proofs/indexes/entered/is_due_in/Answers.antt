@@ -8,7 +8,7 @@ use Rattle.tables.specs.Layout.{IsStore}
 use Rattle.tables.specs.Listings.{SpellsId}
 use Rattle.index.specs.Layout.{HasIndexRows}
 use Rattle.index.specs.Meaning.{key_at}
-use Rattle.index.specs.Rows.{entry_id, fields_of, home_of, key_of}
+use Rattle.index.specs.Rows.{entry_id, fields_of, database_of_declaration, key_of}
 use Rattle.file_check.proofs.CheckSteps.{checks_so, checks_stop}
 use Rattle.file_check.proofs.EntrySteps.{checks_both, checks_lost}
 use Rattle.file_check.proofs.OwnedEntries.{fields_told, index_says, index_there, key_entry, keyless_entry, seen_told, unnamed_unseen, unseen_entry}
@@ -36,7 +36,7 @@ returns-in_default-2 g c d e =
     checks_so g.S.Store F HasIndexRows (λ trees is. IsAnswer (IsOwnEntry trees e) is) c.in_ok-declaration.ensures (λ fit. fit.entry.readable.rows)
     (λ fit says.
     let cell = ap (λ x. column x 3) fit.entry.shown_is ∙ ap (λ x. column x 3) fit.entry.row in
-    unseen_entry db.trees e d fit.found (unnamed_unseen db.trees fit.entry.readable.store.laid (home_of d) (entry_id e) (λ h. c.in_ok-id.ensures.none none (subst SpellsId (sym cell) h))))
+    unseen_entry db.trees e d fit.found (unnamed_unseen db.trees fit.entry.readable.store.laid (database_of_declaration d) (entry_id e) (λ h. c.in_ok-id.ensures.none none (subst SpellsId (sym cell) h))))
 
 pub returns-in_err-history : goal.returns-in_err-history
 returns-in_err-history g c d e =

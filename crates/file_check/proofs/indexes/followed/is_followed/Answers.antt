@@ -5,7 +5,7 @@ use Rattle.sqlite.specs.Held.{state}
 use Rattle.sqlite_value.specs.Order.{column}
 use Rattle.store.specs.Winning.{winner_alone}
 use Rattle.tables.specs.Layout.{IsStore}
-use Rattle.tables.specs.Rows.{db_of, history_in, id_of}
+use Rattle.tables.specs.Rows.{db_of, history_in_rows, id_of}
 use Rattle.tables.specs.Schema.{revs_tree}
 use Rattle.tree.specs.DocumentId.{is_design_id}
 use Rattle.file_check.proofs.CheckSteps.{checks_none, checks_then, checks_weaker}
@@ -29,7 +29,7 @@ returns-then-is_design g c r =
     let h = c.in_ok-history.history in
     let found : c.in_ok-id.field-0 ≡ Some c.in-Some.id = search rules in
     let design : is_design_id id ≡ true = search rules in
-    checks_then g.S.Store F IsReadable {A = λ trees k. k ≡ winner_alone (history_in (trees revs_tree) db id)} {C = λ trees is. IsAnswer (IsIndexedDocument trees r) is}
+    checks_then g.S.Store F IsReadable {A = λ trees k. k ≡ winner_alone (history_in_rows (trees revs_tree) db id)} {C = λ trees is. IsAnswer (IsIndexedDocument trees r) is}
     (checks_weaker g.S.Store F IsStore c.in_ok-history.ensures (λ fit. fit.readable.store) (λ fit x is. is)) c.are_declared.ensures (λ fit is. fit.readable)
     (λ fit is b told.
     design_told trees r db id h b is
@@ -45,7 +45,7 @@ returns g c r =
     let h = c.in_ok-history.history in
     let found : c.in_ok-id.field-0 ≡ Some c.in-Some.id = search rules in
     let plain : is_design_id id ≡ false = search rules in
-    checks_then g.S.Store F IsReadable {A = λ trees k. k ≡ winner_alone (history_in (trees revs_tree) db id)} {C = λ trees is. IsAnswer (IsIndexedDocument trees r) is}
+    checks_then g.S.Store F IsReadable {A = λ trees k. k ≡ winner_alone (history_in_rows (trees revs_tree) db id)} {C = λ trees is. IsAnswer (IsIndexedDocument trees r) is}
     (checks_weaker g.S.Store F IsStore c.in_ok-history.ensures (λ fit. fit.readable.store) (λ fit x is. is)) c.are_entered.ensures (λ fit is. fit.readable)
     (λ fit is b told.
     plain_told trees r db id h b is

@@ -4,7 +4,7 @@ use Rattle.std.specs.Prelude.{filter, map, option_map, slice_get}
 use Rattle.sqlite.specs.Held.{state}
 use Rattle.sqlite_value.specs.Order.{Row}
 use Rattle.tables.specs.Layout.{IsStore}
-use Rattle.tables.specs.Rows.{history_in, is_revision_of, shown_revision}
+use Rattle.tables.specs.Rows.{history_in_rows, is_revision_of, shown_revision}
 use Rattle.tables.specs.Schema.{revs_tree}
 use Rattle.transactions.proofs.Lemmas.{revision_found, revision_intact}
 use Rattle.transactions.specs.Reading.{known_shown}
@@ -28,8 +28,8 @@ returns g c =
     let b = c.one_revision_rows.new.conn in
     let rows = c.deref.result.now in
     let said : List Row → Option Entry = λ rs. option_map known_shown (slice_get rs 0) in
-    checks_then g.S.Store IsStore IsStore {C = λ trees found. found ≡ finite.get (history_in (trees revs_tree) db id) rev} (checks_read g.S.Store (λ fit. fit.schema_is) c.in_ok-rows.ensures)
-    (checks_none g.S.Store IsStore (λ trees found. rows ≡ map shown_revision (filter (is_revision_of db id rev) (trees revs_tree)) → found ≡ finite.get (history_in (trees revs_tree) db id) rev) b c.read_revision.result
+    checks_then g.S.Store IsStore IsStore {C = λ trees found. found ≡ finite.get (history_in_rows (trees revs_tree) db id) rev} (checks_read g.S.Store (λ fit. fit.schema_is) c.in_ok-rows.ensures)
+    (checks_none g.S.Store IsStore (λ trees found. rows ≡ map shown_revision (filter (is_revision_of db id rev) (trees revs_tree)) → found ≡ finite.get (history_in_rows (trees revs_tree) db id) rev) b c.read_revision.result
     (λ fit. if_ok c.read_revision.result
     (λ found made same. made (revision_intact (state g.S.Store b).now.trees (is_revision_of db id rev) rows fit.laid same) ∙ ap said same ∙ revision_found (state g.S.Store b).now.trees db id rev) c.read_revision.ensures))
     (λ fit same. fit)

@@ -3,7 +3,7 @@ use Rattle.std.specs.Prelude.{filter, map, option_and_then, slice_get}
 use Rattle.sqlite.specs.Held.{state}
 use Rattle.sqlite_value.specs.Order.{Row}
 use Rattle.tables.specs.Layout.{IsStore}
-use Rattle.tables.specs.Rows.{history_in, is_of, listed_document}
+use Rattle.tables.specs.Rows.{history_in_rows, is_row_of_document, listed_document}
 use Rattle.tables.specs.Schema.{docs_tree, revs_tree}
 use Rattle.transactions.proofs.Lemmas.{documents_intact, winner_found}
 use Rattle.transactions.specs.Reading.{winner_shown}
@@ -28,9 +28,9 @@ returns g c =
     let rows = c.deref.result.now in
     let said : List Row → Option MarkedRev = λ rs. option_and_then winner_shown (slice_get rs 0) in
     let named : c.as_bytes.result.now ≡ id = c.as_bytes.ensures.value ∙ c.as_str.ensures.text in
-    checks_then g.S.Store IsStore IsStore {C = λ trees found. found ≡ marked_winner (history_in (trees revs_tree) db id)} (checks_read g.S.Store (λ fit. fit.schema_is) c.in_ok-rows.ensures.reads)
-    (checks_none g.S.Store IsStore (λ trees found. rows ≡ map listed_document (filter (is_of db id) (trees docs_tree)) → found ≡ marked_winner (history_in (trees revs_tree) db id)) b c.read_winner.result
+    checks_then g.S.Store IsStore IsStore {C = λ trees found. found ≡ marked_winner (history_in_rows (trees revs_tree) db id)} (checks_read g.S.Store (λ fit. fit.schema_is) c.in_ok-rows.ensures.reads)
+    (checks_none g.S.Store IsStore (λ trees found. rows ≡ map listed_document (filter (is_row_of_document db id) (trees docs_tree)) → found ≡ marked_winner (history_in_rows (trees revs_tree) db id)) b c.read_winner.result
     (λ fit. if_ok c.read_winner.result
     (λ found made same. made (documents_intact (state g.S.Store b).now.trees db id fit.laid rows same) ∙ ap said same ∙ winner_found (state g.S.Store b).now.trees db id fit.laid) c.read_winner.ensures))
     (λ fit same. fit)
-    (λ fit same found says. says (c.deref.ensures.value ∙ same ∙ ap (λ i. map listed_document (filter (is_of db i) (trees docs_tree))) named))
+    (λ fit same found says. says (c.deref.ensures.value ∙ same ∙ ap (λ i. map listed_document (filter (is_row_of_document db i) (trees docs_tree))) named))

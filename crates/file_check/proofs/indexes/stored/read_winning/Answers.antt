@@ -3,7 +3,7 @@ use Rattle.std.specs.Prelude.{option_and_then}
 use Rattle.sqlite.specs.Held.{state}
 use Rattle.store.specs.Winning.{IsHeldSo, single, winner_alone}
 use Rattle.tables.specs.Layout.{IsStore}
-use Rattle.tables.specs.Rows.{history_in}
+use Rattle.tables.specs.Rows.{history_in_rows}
 use Rattle.tables.specs.Schema.{revs_tree}
 use Rattle.transactions.proofs.WinnerMarks.{winner_known}
 use Rattle.tree.specs.declared.entry.Entry.{Entry}
@@ -22,8 +22,8 @@ pub returns-in_default : goal.returns-in_default
 returns-in_default g c =
     let trees = (state g.S.Store c.args.conn.now).now.trees in
     let none : c.in_ok-winner.field-0 ≡ None = search rules in
-    checks_so g.S.Store IsStore IsStore (λ trees history. history ≡ winner_alone (history_in (trees revs_tree) c.args.db.now c.args.id.now)) c.in_ok-winner.ensures (λ fit. fit)
-    (λ fit is. c.new.ensures ∙ alone_none (history_in (trees revs_tree) c.args.db.now c.args.id.now) (sym is ∙ none))
+    checks_so g.S.Store IsStore IsStore (λ trees history. history ≡ winner_alone (history_in_rows (trees revs_tree) c.args.db.now c.args.id.now)) c.in_ok-winner.ensures (λ fit. fit)
+    (λ fit is. c.new.ensures ∙ alone_none (history_in_rows (trees revs_tree) c.args.db.now c.args.id.now) (sym is ∙ none))
 
 pub returns-in_err-known : goal.returns-in_err-known
 returns-in_err-known g c =
@@ -40,8 +40,8 @@ returns g c =
     let known = c.in_ok-known.known in
     let held = option_and_then (λ (e : Entry). e.held) known in
     let some : c.in_ok-winner.field-0 ≡ Some w = search rules in
-    checks_then g.S.Store IsStore IsStore {C = λ trees history. history ≡ winner_alone (history_in (trees revs_tree) db id)}
+    checks_then g.S.Store IsStore IsStore {C = λ trees history. history ≡ winner_alone (history_in_rows (trees revs_tree) db id)}
     (checks_both g.S.Store IsStore IsStore IsStore c.in_ok-winner.ensures c.in_ok-known.ensures (λ fit. fit) (λ fit. fit))
     (checks_none g.S.Store IsStore (λ trees history. IsHeldSo w.deleted held → history ≡ single w.rev held) c.find_revision.new.conn c.make_winning.result (λ fit. c.make_winning.ensures))
     (λ fit is. fit)
-    (λ fit is history says. says (winner_known trees db id fit.laid w known (sym is.0 ∙ some) is.1) ∙ alone_known (history_in (trees revs_tree) db id) w known (sym is.0 ∙ some) is.1)
+    (λ fit is history says. says (winner_known trees db id fit.laid w known (sym is.0 ∙ some) is.1) ∙ alone_known (history_in_rows (trees revs_tree) db id) w known (sym is.0 ∙ some) is.1)

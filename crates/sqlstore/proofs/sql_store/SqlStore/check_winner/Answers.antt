@@ -1,4 +1,4 @@
-use Rattle.sqlstore.proofs.Lemmas.{Err, Trees, ap, history_in, inside, laid, revs_tree, rules, stands_same, sym, trees_of, was_honest, ∥∥₁_elim, ◌∙◌, ◌≡◌}
+use Rattle.sqlstore.proofs.Lemmas.{Err, Trees, ap, history_in_rows, inside, laid, revs_tree, rules, stands_same, sym, trees_of, was_honest, ∥∥₁_elim, ◌∙◌, ◌≡◌}
 use Rattle.std.specs.FinMap as finite
 use Rattle.sqlstore.proofs.LostRows.{damaged}
 use Rattle.transactions.proofs.WinnerMarks.{winner_known}
@@ -18,5 +18,5 @@ returns-in_err-_body-clause-answer g c =
     (λ honest.
     let first = was_honest g.S.Store mid end c.load_revision.ensures.stands honest in
     let won = inside _ _ (c.in_ok-winner.ensures.answer first) ∙ c.in-Some.is in
-    let known = sym (inside _ _ (c.in_ok-known.ensures.answer honest)) ∙ ap (λ (t : Trees). finite.get (history_in (t revs_tree) n id) w.rev) (stands_same g.S.Store s mid c.find_winner.ensures.stands) in
+    let known = sym (inside _ _ (c.in_ok-known.ensures.answer honest)) ∙ ap (λ (t : Trees). finite.get (history_in_rows (t revs_tree) n id) w.rev) (stands_same g.S.Store s mid c.find_winner.ensures.stands) in
     ∥∥₁_elim (laid g.S.Store s (was_honest g.S.Store s mid c.find_winner.ensures.stands first)) (λ p q. absurd p) (λ l. e.1 (winner_known (trees_of g.S.Store s) n id l w c.in_ok-known.known won known)))

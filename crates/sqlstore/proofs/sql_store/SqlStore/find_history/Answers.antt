@@ -1,4 +1,4 @@
-use Rattle.sqlstore.proofs.Lemmas.{Err, Trees, ap, history_in, inside, revs_tree, rules, stands_same, sym, was_honest, ◌∙◌, ◌≡◌}
+use Rattle.sqlstore.proofs.Lemmas.{Err, Trees, ap, history_in_rows, inside, revs_tree, rules, stands_same, sym, was_honest, ◌∙◌, ◌≡◌}
 use Rattle.sqlstore.proofs.LostRows.{damaged}
 use Rattle.tree.specs.Outline.{marked_winner}
 use Rattle.sqlstore.proofs.sql_store.SqlStore.find_history.Goals as goal
@@ -15,4 +15,4 @@ returns-in_err-check_history-clause-answer g c =
     let first = was_honest g.S.Store mid end c.load_history.ensures.stands honest in
     let won = inside _ _ (c.in_ok-winner.ensures.answer first) in
     let read = inside _ _ (c.in_ok-history.ensures.answer honest) in
-    e.1 (sym won ∙ ap (λ (t : Trees). marked_winner (history_in (t revs_tree) c.args.number.now c.args.id.now)) (sym (stands_same g.S.Store s mid c.find_winner.ensures.stands)) ∙ ap marked_winner read))
+    e.1 (sym won ∙ ap (λ (t : Trees). marked_winner (history_in_rows (t revs_tree) c.args.number.now c.args.id.now)) (sym (stands_same g.S.Store s mid c.find_winner.ensures.stands)) ∙ ap marked_winner read))

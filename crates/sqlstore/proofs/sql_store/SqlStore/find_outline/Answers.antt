@@ -1,4 +1,4 @@
-use Rattle.sqlstore.proofs.Lemmas.{Trees, ap, history_in, inside, leaf_rows_lost, revs_tree, rules, stands_same, sym, trees_of, was_honest, ◌∙◌}
+use Rattle.sqlstore.proofs.Lemmas.{Trees, ap, history_in_rows, inside, leaf_rows_lost, revs_tree, rules, stands_same, sym, trees_of, was_honest, ◌∙◌}
 use Rattle.sqlstore.proofs.LostRows.{outline_agrees}
 use Rattle.tree.specs.Outline.{outline_of}
 use Rattle.sqlstore.proofs.sql_store.SqlStore.find_outline.Goals as goal
@@ -17,5 +17,5 @@ returns-in_err-check_outline-clause-answer g c =
     let read = inside _ _ (c.in_ok-outline.ensures.answer honest) in
     let same = stands_same g.S.Store s mid c.find_winner.ensures.stands in
     none
-    (outline_agrees (history_in (trees_of g.S.Store s revs_tree) n id) c.in_ok-outline.outline c.in_ok-winner.winner (sym won)
-    (sym read ∙ ap (λ (t : Trees). outline_of (history_in (t revs_tree) n id)) same)))
+    (outline_agrees (history_in_rows (trees_of g.S.Store s revs_tree) n id) c.in_ok-outline.outline c.in_ok-winner.winner (sym won)
+    (sym read ∙ ap (λ (t : Trees). outline_of (history_in_rows (t revs_tree) n id)) same)))

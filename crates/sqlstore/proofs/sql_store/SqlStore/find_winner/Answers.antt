@@ -1,4 +1,4 @@
-use Rattle.sqlstore.proofs.Lemmas.{List, Some, answered, ap, documents_intact, filter, is_of, laid, map, sym, trees_of, was_honest, winner_found, winner_set, ℕ, ∥∥₁_elim, ◌∙◌, ◌≡◌}
+use Rattle.sqlstore.proofs.Lemmas.{List, Some, answered, ap, documents_intact, filter, is_row_of_document, laid, map, sym, trees_of, was_honest, winner_found, winner_set, ℕ, ∥∥₁_elim, ◌∙◌, ◌≡◌}
 use Rattle.std.specs.Prelude.{option_and_then, slice_get}
 use Rattle.tables.specs.Rows.{listed_document}
 use Rattle.tables.specs.Schema.{docs_tree}
@@ -12,7 +12,7 @@ returns-clause-answer g c =
     let trees = trees_of g.S.Store s in
     let n = c.args.number.now in
     let id = c.args.id.now in
-    let shown = λ (k : List ℕ). map listed_document (filter (is_of n k) (trees_of g.S.Store s docs_tree)) in
+    let shown = λ (k : List ℕ). map listed_document (filter (is_row_of_document n k) (trees_of g.S.Store s docs_tree)) in
     answered g.S.Store s end (λ v. v) _ _ _ c.first_winner.result c.first_winner.ensures
     (λ honest.
     let rows : c.deref.result.now ≡ shown id = c.deref.ensures.value ∙ c.in_ok-rows.ensures.found honest ∙ ap shown (c.as_bytes.ensures.value ∙ c.as_str.ensures.text) in

@@ -2,7 +2,7 @@
 use Rattle.std.proofs.Common.{Option, Some, sym, ap, ◌∙◌}
 use Rattle.couch_json.specs.View.{view}
 use Rattle.tree.specs.Revision.{Revision}
-use Rattle.tree.specs.History.{HistoryContent, behind, with_entries}
+use Rattle.tree.specs.History.{HistoryContent, ancestors_of_parent, with_entries}
 use Rattle.tree.specs.Nodes.{entries_before}
 use Rattle.tree.specs.declared.entry.Held.{Held}
 use Rattle.tree.proofs.Behind.{behind_known, with_followed}
@@ -19,4 +19,4 @@ returns-clause-ok c =
     ∙ ap (λ (h : HistoryContent). with_entries h (entries c.in_ok-held.held)) c.self.view_is
     ∙ ap (λ (d : Held). with_entries old (entries d)) c.in_ok-held.ensures
     ∙ ap (λ (o : Option Revision). with_entries old (entries_before held path o)) c.known_parent-parent.ensures
-    ∙ sym (with_followed old held path (behind old c.args.parent) (behind_known old c.args.parent))
+    ∙ sym (with_followed old held path (ancestors_of_parent old c.args.parent) (behind_known old c.args.parent))

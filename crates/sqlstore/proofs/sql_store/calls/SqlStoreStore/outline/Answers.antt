@@ -1,5 +1,5 @@
 use Rattle.tree.specs.Outline.{outline_of}
-use Rattle.sqlstore.proofs.Lemmas.{DatabaseNumbers, Some, afterwards, found_at, history_in, outline_there, not_found, numbers_in, revs_tree, rules, was_honest}
+use Rattle.sqlstore.proofs.Lemmas.{DatabaseNumbers, Some, afterwards, found_at, history_in_rows, outline_there, not_found, numbers_in, revs_tree, rules, was_honest}
 use Rattle.sqlstore.proofs.sql_store.calls.SqlStoreStore.outline.Goals as goal
 
 pub returns-in_err-found-clause-answer : goal.returns-in_err-found-clause-answer
@@ -13,5 +13,5 @@ returns-clause-answer g c =
     afterwards g.S.Store c.args.self.now mid c.find_outline.new.self (λ v. v) _ _ c.find_outline.result c.find.ensures.stands
     (λ honest.
     let was = was_honest g.S.Store mid c.find_outline.new.self c.find_outline.ensures.stands honest in
-    found_at g.S.Store c.args.self.now mid c.args.name.now _ c.find.ensures.stands was (c.in_ok-found.ensures.answer was) (λ t. Some (outline_of (history_in (t revs_tree) n id))) (λ lay t. outline_there _ _ _ lay t id))
+    found_at g.S.Store c.args.self.now mid c.args.name.now _ c.find.ensures.stands was (c.in_ok-found.ensures.answer was) (λ t. Some (outline_of (history_in_rows (t revs_tree) n id))) (λ lay t. outline_there _ _ _ lay t id))
     c.find_outline.ensures.answer

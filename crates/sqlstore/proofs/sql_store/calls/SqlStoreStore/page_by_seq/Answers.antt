@@ -1,4 +1,4 @@
-use Rattle.sqlstore.proofs.Lemmas.{DatabaseNumbers, SequencePage, Some, Trees, afterwards, ap, false, found_at, history_in, inside, leaves_there, listed_by_sequence, not_found, numbers_in, page_with_leaves, revs_tree, rules, sequence_page_of, stands_same, stands_then, sym, trees_of, true, was_honest, winners_page, winners_there, ◌∙◌, ◌≡◌}
+use Rattle.sqlstore.proofs.Lemmas.{DatabaseNumbers, SequencePage, Some, Trees, afterwards, ap, false, found_at, history_in_rows, inside, leaves_there, listed_by_sequence, not_found, numbers_in, page_with_leaves, revs_tree, rules, sequence_page_of, stands_same, stands_then, sym, trees_of, true, was_honest, winners_page, winners_there, ◌∙◌, ◌≡◌}
 use Rattle.sqlstore.proofs.sql_store.calls.SqlStoreStore.page_by_seq.Goals as goal
 
 pub returns-in_err-found-clause-answer : goal.returns-in_err-found-clause-answer
@@ -31,7 +31,7 @@ returns-clause-answer g c =
     let then = was_honest g.S.Store second end c.show_page_leaves.ensures.stands honest in
     let was = was_honest g.S.Store first second c.find_page_by_sequence.ensures.stands then in
     found_at g.S.Store s first c.args.name.now _ stood was (c.in_ok-found.ensures.answer was)
-    (λ t. Some (page_with_leaves (history_in (t revs_tree) k.number) (winners_page range k.sequence (listed_by_sequence t k.number)))) (λ lay t. leaves_there _ _ _ lay t range leaves)
-    ∙ ap (λ (p : SequencePage). Some (page_with_leaves (history_in (trees_of g.S.Store first revs_tree) k.number) p)) (inside _ _ (c.in_ok-page.ensures.answer then))
-    ∙ ap (λ (t : Trees). Some (page_with_leaves (history_in (t revs_tree) k.number) (sequence_page_of c.in_ok-page.page))) (sym (stands_same g.S.Store first second c.find_page_by_sequence.ensures.stands)))
+    (λ t. Some (page_with_leaves (history_in_rows (t revs_tree) k.number) (winners_page range k.sequence (listed_by_sequence t k.number)))) (λ lay t. leaves_there _ _ _ lay t range leaves)
+    ∙ ap (λ (p : SequencePage). Some (page_with_leaves (history_in_rows (trees_of g.S.Store first revs_tree) k.number) p)) (inside _ _ (c.in_ok-page.ensures.answer then))
+    ∙ ap (λ (t : Trees). Some (page_with_leaves (history_in_rows (t revs_tree) k.number) (sequence_page_of c.in_ok-page.page))) (sym (stands_same g.S.Store first second c.find_page_by_sequence.ensures.stands)))
     c.show_page_leaves.ensures.answer

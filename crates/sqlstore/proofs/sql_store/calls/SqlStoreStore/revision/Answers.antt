@@ -1,5 +1,5 @@
 use Rattle.std.specs.FinMap as finite
-use Rattle.sqlstore.proofs.Lemmas.{DatabaseNumbers, Some, afterwards, found_at, history_in, revision_there, not_found, numbers_in, revs_tree, rules, was_honest}
+use Rattle.sqlstore.proofs.Lemmas.{DatabaseNumbers, Some, afterwards, found_at, history_in_rows, revision_there, not_found, numbers_in, revs_tree, rules, was_honest}
 use Rattle.sqlstore.proofs.sql_store.calls.SqlStoreStore.revision.Goals as goal
 
 pub returns-in_err-found-clause-answer : goal.returns-in_err-found-clause-answer
@@ -13,5 +13,5 @@ returns-clause-answer g c =
     afterwards g.S.Store c.args.self.now mid c.find_revision.new.self (λ v. v) _ _ c.find_revision.result c.find.ensures.stands
     (λ honest.
     let was = was_honest g.S.Store mid c.find_revision.new.self c.find_revision.ensures.stands honest in
-    found_at g.S.Store c.args.self.now mid c.args.name.now _ c.find.ensures.stands was (c.in_ok-found.ensures.answer was) (λ t. Some (finite.get (history_in (t revs_tree) n id) c.args.rev.now)) (λ lay t. revision_there _ _ _ lay t id c.args.rev.now))
+    found_at g.S.Store c.args.self.now mid c.args.name.now _ c.find.ensures.stands was (c.in_ok-found.ensures.answer was) (λ t. Some (finite.get (history_in_rows (t revs_tree) n id) c.args.rev.now)) (λ lay t. revision_there _ _ _ lay t id c.args.rev.now))
     c.find_revision.ensures.answer

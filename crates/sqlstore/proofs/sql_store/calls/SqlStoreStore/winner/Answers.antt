@@ -1,5 +1,5 @@
 use Rattle.tree.specs.Outline.{marked_winner}
-use Rattle.sqlstore.proofs.Lemmas.{DatabaseNumbers, Some, afterwards, found_at, history_in, winner_there, not_found, numbers_in, revs_tree, rules, was_honest}
+use Rattle.sqlstore.proofs.Lemmas.{DatabaseNumbers, Some, afterwards, found_at, history_in_rows, winner_there, not_found, numbers_in, revs_tree, rules, was_honest}
 use Rattle.sqlstore.proofs.sql_store.calls.SqlStoreStore.winner.Goals as goal
 
 pub returns-in_err-found-clause-answer : goal.returns-in_err-found-clause-answer
@@ -13,5 +13,5 @@ returns-clause-answer g c =
     afterwards g.S.Store c.args.self.now mid c.find_winner.new.self (λ v. v) _ _ c.find_winner.result c.find.ensures.stands
     (λ honest.
     let was = was_honest g.S.Store mid c.find_winner.new.self c.find_winner.ensures.stands honest in
-    found_at g.S.Store c.args.self.now mid c.args.name.now _ c.find.ensures.stands was (c.in_ok-found.ensures.answer was) (λ t. Some (marked_winner (history_in (t revs_tree) n id))) (λ lay t. winner_there _ _ _ lay t id))
+    found_at g.S.Store c.args.self.now mid c.args.name.now _ c.find.ensures.stands was (c.in_ok-found.ensures.answer was) (λ t. Some (marked_winner (history_in_rows (t revs_tree) n id))) (λ lay t. winner_there _ _ _ lay t id))
     c.find_winner.ensures.answer

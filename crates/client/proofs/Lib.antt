@@ -1,4 +1,0 @@
-pub mod Logs
-pub mod Reading
-pub mod Written
-pub mod Made

@@ -1,3 +1,0 @@
-pub mod Streams
-pub mod Exchange
-pub mod Persistence

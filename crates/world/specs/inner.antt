@@ -1,0 +1,2 @@
+-- What ties the code to the definitions of its clauses, and that no public clause names.
+pub mod Turning
