@@ -1,9 +1,9 @@
 -- What counts by segments say of keys, and what becomes of them where a key is added or removed, or a segment is split.
-use Rattle.std.proofs.Common.{◌≡◌, ℕ, zero, suc, ◌+◌, ◌-◌, ◌<◌, ◌≤◌, List, [], ◌∷◌, true, false, length, get_or, set, refl, sym, ap, subst, ◌∙◌, arith}
+use Rattle.std.proofs.Common.{◌≡◌, ℕ, zero, suc, ◌+◌, ◌-◌, ◌<◌, ◌≤◌, List, [], ◌∷◌, Bool, true, false, length, get_or, set, refl, sym, ap, subst, ◌∙◌, arith}
 use Rattle.std.specs.List.{insert}
 use Rattle.ranks.specs.Counts.{AllAbove, Ascends, Segments, LiesIn, AreCounts, before_of, before_place, below, between, count_of, head_cut, head_with, is_below, segments_cut, segments_with, start_of, total_of, AreRanksOf}
 use Rattle.ranks.specs.Seen.{Ranks}
-use Rattle.ranks.proofs.Order.{below_empty, below_length, below_less, below_other, not_below, below_rises, below_trans, none_below, rank}
+use Rattle.ranks.proofs.Order.{below_empty, below_length, below_less, below_other, not_below, below_rises, below_trans, none_below, not_under, rank}
 
 -- ---- what they say
 
@@ -35,6 +35,12 @@ starts_at key (s ∷ ss) (suc i) h = starts_at key ss i h.1
 pub lies_from : (key : List ℕ) (ss : Segments) (p : ℕ) → LiesIn key ss p → is_below key (start_of ss p) ≡ false
 lies_from key ss zero h = none_below key
 lies_from key ss (suc i) h = starts_at key ss i h
+
+-- where the next segment begins is above it
+pub lies_under : (key : List ℕ) (ss : Segments) (p : ℕ) → LiesIn key ss p → p < length ss → is_below key (start_of ss (suc p)) ≡ true
+lies_under key [] p h lt = absurd (omega arith)
+lies_under key (s ∷ ss) zero h lt = h.0
+lies_under key (s ∷ ss) (suc p) h lt = lies_under key ss p h.1 (omega arith)
 
 pub above_from : (key f : List ℕ) (ss : Segments) → is_below key f ≡ true → AllAbove f ss → AllAbove key ss
 above_from key f [] h a = tt
@@ -239,6 +245,24 @@ rank_from head key keys ss p t lies =
     let parts = rank (start_of ss p) key keys (lies_from key ss p lies) in
     let before = segments_before head keys ss p t (lies_within key ss p lies) in
     omega (arith, parts, before)
+
+-- the same from where the segment ends, at the place q behind it
+pub rank_under : (head : ℕ) (key : List ℕ) (keys : List (List ℕ)) (ss : Segments) (p q : ℕ) → AreCounts head keys ss → LiesIn key ss p → p < length ss → q ≡ p + 1
+    → below key keys + between key (start_of ss q) keys ≡ before_place head ss q
+rank_under head key keys ss p q t h lt next = subst (λ q. below key keys + between key (start_of ss q) keys ≡ before_place head ss q) (sym same) at_next
+  where
+    same : q ≡ suc p
+    same = omega (arith, next)
+
+    end : List ℕ
+    end = start_of ss (suc p)
+
+    not_under_it : (b : Bool) → is_below end key ≡ b → is_below end key ≡ false
+    not_under_it true e = let loop : true ≡ false = sym (below_trans key end key (lies_under key ss p h lt) e) ∙ not_under key in absurd (cc)
+    not_under_it false e = e
+
+    at_next : below key keys + between key end keys ≡ before_place head ss (suc p)
+    at_next = sym (rank key end keys (not_under_it (is_below end key) refl)) ∙ sym (segments_before head keys ss (suc p) t (omega arith))
 
 pub before_step : (at : ℕ) (ss : Segments) (i j : ℕ) → i < length ss → j ≡ i + 1 → before_of at ss j ≡ before_of at ss i + (get_or ss i ([], 0)).1
 before_step at ss i zero lt e = absurd (omega arith)

@@ -111,6 +111,13 @@ impl Ranks {
         self.total
     }
 
+    /// Returns how many segments there are behind the first one.
+    pub fn boundaries(&self) -> usize
+        ensures { result ≡ length self.now.segments }
+    {
+        self.segments.len()
+    }
+
     /// Returns where the segment begins that a key lies in, so that the rank of the key is counted there.
     pub fn segment_of(&self, key: &[u8]) -> Boundary<'_>
         ensures starts { is_below key.now result.key.now ≡ false }
@@ -122,6 +129,22 @@ impl Ranks {
             key: self.start(place),
             before: self.before(place),
         }
+    }
+
+    /// Returns where the segment ends that a key lies in, so that the rank of the key is counted from there. The
+    /// last segment ends nowhere.
+    pub fn end_of(&self, key: &[u8]) -> Option<Boundary<'_>>
+        ensures { IfSome result
+            (λ end. (keys : List (List ℕ)) → AreRanksOf self.now keys → below key.now keys + between key.now end.key.now keys ≡ end.before) }
+    {
+        let place = self.place_of(key);
+        if place >= self.segments.len() {
+            return None;
+        }
+        Some(Boundary {
+            key: self.start(place + 1),
+            before: self.before(place + 1),
+        })
     }
 
     /// Returns where the last segment begins that has more than so many keys, if there is one.
