@@ -10,7 +10,7 @@ use Rattle.sqlstore.specs.inner.Reading.{without_indexes}
 use Rattle.sqlstore.specs.Standing.{AreKnown, IsKnownDatabase}
 
 abbrev IsEarlier : Trees → KnownDatabase → Type 0
-IsEarlier trees k = IsKnownDatabase trees k × (k.indexes ≡ None) × (k.entries ≡ None)
+IsEarlier trees k = IsKnownDatabase trees k × (k.indexes ≡ None) × (k.index_ranks ≡ None) × (k.designs ≡ None)
 
 module _ (trees : Trees) (ks : List KnownDatabase) (known : AreKnown trees ks) where
   -- without the one at a place
@@ -23,7 +23,7 @@ module _ (trees : Trees) (ks : List KnownDatabase) (known : AreKnown trees ks) w
 
   -- with one more, whose indexes are forgotten
   pub pushed_known : (k : KnownDatabase) → IsKnownDatabase trees k → AreKnown trees (ks ++ without_indexes k ∷ [])
-  pushed_known k is = all-append (IsEarlier trees) ks (without_indexes k ∷ []) known ((known_split trees k is, refl, refl), tt)
+  pushed_known k is = all-append (IsEarlier trees) ks (without_indexes k ∷ []) known ((known_split trees k is, refl, refl, refl), tt)
 
   -- the same, where there is room for it
   pub pushed_if : (room : Bool) (k : KnownDatabase) → IsKnownDatabase trees k → AreKnown trees (cond room (ks ++ without_indexes k ∷ []) ks)

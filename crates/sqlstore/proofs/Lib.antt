@@ -13,17 +13,26 @@ pub mod Ranking
 pub mod Enough
 pub mod FoundPages
 pub mod KeyEntries
+pub mod KeyRanking
 pub mod Afterwards
 pub mod LeafRows
 pub mod LostRows
 mod OpenedAgain
 pub mod KnownCounts
 pub mod MarkCounts
+pub mod EntriesInserted
 pub mod LiveKeys
 pub mod LiveIds
 pub mod MarkChanges
+pub mod Designs
 pub mod OtherKnown
 pub mod MarkRows
+pub mod SeenKeys
+pub mod SameElements
+pub mod IndexKeys
+pub mod KeysInserted
+pub mod KeyChanges
+pub mod CountedRanks
 pub mod EarlierKnown
 pub mod Making
 pub mod Lemmas

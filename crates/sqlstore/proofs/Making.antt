@@ -189,7 +189,8 @@ module _ (new : Database) (name : List ℕ) where
           counts = uncounted new.trees (at_sequence (sequence + length all) to k) refl refl;
           ranked = tt;
           indexes = subst (λ n. AreAllIndexes (map declared to.items) n new.trees) (sym here.numbered ∙ ap (λ (v : FoundValues). v.0) values) (writes here).2;
-          counted = tt;
+          index_ranked = tt;
+          designed = tt;
         }
 
 -- a local document says nothing of what is known
@@ -205,6 +206,9 @@ module _ (old new : Database) (number : ℤ) (id : List ℕ) (revision : ℕ) (b
   docs_left : new.trees docs_tree ≡ old.trees docs_tree
   docs_left = left docs_tree (λ a b l. l.docs (omega arith))
 
+  revs_left : new.trees revs_tree ≡ old.trees revs_tree
+  revs_left = left revs_tree (λ a b l. l.revs (omega arith))
+
   decls_left : new.trees decls_tree ≡ old.trees decls_tree
   decls_left = left decls_tree (λ a b l. l.decls (omega arith))
 
@@ -212,10 +216,10 @@ module _ (old new : Database) (number : ℤ) (id : List ℕ) (revision : ℕ) (b
   entries_left = left entries_tree (λ a b l. l.entries (omega arith))
 
   pub put_known : (known : Option KnownDatabase) → IsKnown old.trees known → IsKnown new.trees known
-  put_known = one_still old.trees new.trees dbs_left docs_left decls_left entries_left
+  put_known = one_still old.trees new.trees dbs_left docs_left revs_left decls_left entries_left
 
   pub put_beside : (ks : List KnownDatabase) → AreKnown old.trees ks → AreKnown new.trees ks
-  put_beside = all_still old.trees new.trees dbs_left docs_left decls_left entries_left
+  put_beside = all_still old.trees new.trees dbs_left docs_left revs_left decls_left entries_left
 
 -- what is known after it, of what was known before
 pub known_after : (trees : Trees) (known : Option KnownDatabase) (name : List ℕ) (sequence : ℕ) (to : Vec Declaration Global) (r : Option KnownDatabase)

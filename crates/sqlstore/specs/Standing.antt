@@ -13,27 +13,30 @@ use Rattle.index.specs.Indexed.{IsIndexed}
 use Rattle.transactions.specs.Indexing.{AreKnownIndexes, IsIndexedStore}
 use Rattle.ranks.specs.Counts.{AreRanksOf}
 use Rattle.sqlstore.specs.inner.Listing.{all_count, live_ids}
-use Rattle.sqlstore.specs.inner.Reading.{AreKnownEntries, count_kept, found_in, known_values}
+use Rattle.sqlstore.specs.inner.Designs.{AreKnownDesigns}
+use Rattle.sqlstore.specs.inner.Keys.{AreKnownRanks}
+use Rattle.sqlstore.specs.inner.Reading.{count_kept, found_in, known_values}
 use Rattle.sqlstore.specs.declared.known_database.KnownDatabase.{KnownDatabase}
 
 -- What is known of a database is what its row says. Each count that is known is that of its documents, and the ranks, where they are
--- known, are those of the ids that are not deleted. Its indexes, where they are known, are all that it has, and each number of entries
--- that is known is that of its index.
+-- known, are those of the ids that are not deleted. Its indexes, where they are known, are all that it has, and the ranks of
+-- keys that are known are those of indexes that it has. Its design documents, where they are known, are all whose winner is not deleted.
 pub record IsKnownDatabase (trees : Trees) (k : KnownDatabase) : Type 0 where
   pub row : option_map found_in (slice_get (filter (is_named k.name) (trees dbs_tree)) 0) ≡ Some (known_values k)
   pub counts : (deleted : Bool) → IfSome (count_kept deleted k) (λ c. c.value ≡ all_count trees k.found.number deleted)
   pub ranked : IfSome k.ranks (λ r. AreRanksOf r (live_ids trees k.found.number))
   pub indexes : AreKnownIndexes k.indexes k.found.number trees
-  pub counted : AreKnownEntries trees k.entries
+  pub index_ranked : AreKnownRanks trees k.found.number k.index_ranks
+  pub designed : AreKnownDesigns trees k.found.number k.designs
 
 -- the same, where something is known
 abbrev pub IsKnown : Trees → Option KnownDatabase → Type 0
 IsKnown trees None = ⊤
 IsKnown trees (Some k) = IsKnownDatabase trees k
 
--- the same of each of those that were asked for before; of them neither an index is known, nor how many entries one has
+-- the same of each of those that were asked for before; of them neither an index is known, nor the ranks of the keys of one, nor design documents
 abbrev pub AreKnown : Trees → List KnownDatabase → Type 0
-AreKnown trees ks = AllByRecursion (λ k. IsKnownDatabase trees k × (k.indexes ≡ None) × (k.entries ≡ None)) ks
+AreKnown trees ks = AllByRecursion (λ k. IsKnownDatabase trees k × (k.indexes ≡ None) × (k.index_ranks ≡ None) × (k.designs ≡ None)) ks
 
 module _ {S : Type 0} (g : Ghosts S) where
   -- The tables are laid out as the last change left them, and the rows of indexes are those of what is stored. An open connection has

@@ -3,6 +3,9 @@ pub mod Causes
 pub mod Reading
 pub mod Listing
 pub mod Marks
+pub mod Keys
+pub mod CountedKeys
+pub mod Designs
 pub mod Commits
 pub mod ById
 pub mod ByKey

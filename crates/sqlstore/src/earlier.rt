@@ -42,7 +42,7 @@ fn is_of(known: &KnownDatabase, name: &DbName) -> bool
     known.name.as_str() == name.as_str()
 }
 
-/// Puts in what is known of a database, without its indexes. The one that was asked for last longest ago is
+/// Puts in what is known of a database, without its indexes and its design documents. The one that was asked for last longest ago is
 /// forgotten where there are too many; where memory runs out this one is.
 pub(crate) fn keep_known(earlier: &mut Vec<KnownDatabase>, known: KnownDatabase)
     ensures { (trees : Trees) → AreKnown trees earlier.old.items → IsKnown trees (Some known) → AreKnown trees earlier.new.items }

@@ -5,23 +5,23 @@ ghost use Rattle.ranks.specs.Counts.{AreRanksOf};
 ghost use Rattle.sqlite_trees.specs.Tree.{Trees};
 ghost use Rattle.sqlstore.specs.inner.Listing.{all_count, live_ids};
 ghost use Rattle.sqlstore.specs.inner.Marks.{AreCountsAt};
-ghost use Rattle.sqlstore.specs.inner.Reading.{at_sequence, count_kept, counts_of, with_count, with_counts, with_entries, with_ranks, without_indexes};
-ghost use Rattle.sqlstore.specs.inner.Reading.{entry_count};
+ghost use Rattle.sqlstore.specs.inner.Reading.{at_sequence, count_kept, counts_of, with_count, with_counts, with_designs, with_index_ranks, with_ranks, without_indexes};
+ghost use Rattle.sqlstore.specs.inner.Designs.{AreKnownDesigns};
+ghost use Rattle.sqlstore.specs.inner.Keys.{AreKnownRanks};
 ghost use Rattle.sqlstore.specs.Standing.{IsKnown};
 ghost use Rattle.transactions.specs.Indexing.{AreKnownIndexes};
 
 use crate::document_count::DocumentCount;
-use crate::entry_count::EntryCount;
-use crate::entry_counts::{find_entries, put_entries};
+use crate::index_ranks::IndexRanks;
 use crate::known_counts::KnownCounts;
+use crate::known_design::KnownDesign;
 use index::Declaration;
 use ranks::Ranks;
-use std::alloc::Global;
 use store::DbName;
 use tables::FoundDatabase;
 
-/// A database and what its row says, how many documents it has, the ranks of their ids, its indexes, and how
-/// many entries these have.
+/// A database and what its row says, how many documents it has, the ranks of their ids, its indexes, the
+/// ranks of the keys that these have, and its design documents.
 #[derive(Drop)]
 pub(crate) struct KnownDatabase {
     /// Its name.
@@ -36,8 +36,10 @@ pub(crate) struct KnownDatabase {
     pub(crate) ranks: Option<Ranks>,
     /// Its indexes, where they were listed.
     pub(crate) indexes: Option<Vec<Declaration>>,
-    /// How many entries indexes have, where some were counted.
-    pub(crate) entries: Option<Vec<EntryCount>>,
+    /// The ranks of the keys of indexes, where some were made.
+    pub(crate) index_ranks: Option<Vec<IndexRanks>>,
+    /// Its design documents, where they were read.
+    pub(crate) designs: Option<Vec<KnownDesign>>,
 }
 
 /// The number of a database and its sequence.
@@ -72,7 +74,8 @@ impl KnownDatabase {
             deleted: _,
             ranks: _,
             indexes: _,
-            entries: _,
+            index_ranks: _,
+            designs: _,
         } = self;
         found.sequence = sequence;
         KnownDatabase {
@@ -82,11 +85,12 @@ impl KnownDatabase {
             deleted: None,
             ranks: None,
             indexes: Some(indexes),
-            entries: None,
+            index_ranks: None,
+            designs: None,
         }
     }
 
-    /// Parts it from its indexes. How many entries they have is forgotten.
+    /// Parts it from its indexes. The ranks of their keys are forgotten, and its design documents.
     pub(crate) fn split(self) -> (KnownDatabase, Option<Vec<Declaration>>)
         ensures known { result.0 ≡ without_indexes self }
         ensures indexes { result.1 ≡ self.indexes }
@@ -98,7 +102,8 @@ impl KnownDatabase {
             deleted,
             ranks,
             indexes,
-            entries: _,
+            index_ranks: _,
+            designs: _,
         } = self;
         let known = KnownDatabase {
             name,
@@ -107,7 +112,8 @@ impl KnownDatabase {
             deleted,
             ranks,
             indexes: None,
-            entries: None,
+            index_ranks: None,
+            designs: None,
         };
         (known, indexes)
     }
@@ -131,23 +137,42 @@ impl KnownDatabase {
         (known, ranks)
     }
 
-    /// Returns it with these numbers of entries.
-    fn with_entries(self, entries: Option<Vec<EntryCount>>) -> KnownDatabase
-        ensures { result ≡ with_entries entries self }
+    /// Returns it with these ranks of the keys of indexes.
+    fn with_index_ranks(self, ranks: Option<Vec<IndexRanks>>) -> KnownDatabase
+        ensures { result ≡ with_index_ranks ranks self }
     {
         let mut known = self;
-        known.entries = entries;
+        known.index_ranks = ranks;
         known
     }
 
-    /// Parts it from how many entries its indexes have.
-    fn split_entries(self) -> (KnownDatabase, Option<Vec<EntryCount>>)
-        ensures known { result.0 ≡ with_entries None self }
-        ensures entries { result.1 ≡ self.entries }
+    /// Parts it from the ranks of the keys of its indexes.
+    fn split_index_ranks(self) -> (KnownDatabase, Option<Vec<IndexRanks>>)
+        ensures known { result.0 ≡ with_index_ranks None self }
+        ensures ranks { result.1 ≡ self.index_ranks }
     {
         let mut known = self;
-        let entries = known.entries.take();
-        (known, entries)
+        let ranks = known.index_ranks.take();
+        (known, ranks)
+    }
+
+    /// Returns it with these design documents.
+    fn with_designs(self, designs: Option<Vec<KnownDesign>>) -> KnownDatabase
+        ensures { result ≡ with_designs designs self }
+    {
+        let mut known = self;
+        known.designs = designs;
+        known
+    }
+
+    /// Parts it from its design documents.
+    fn split_designs(self) -> (KnownDatabase, Option<Vec<KnownDesign>>)
+        ensures known { result.0 ≡ with_designs None self }
+        ensures designs { result.1 ≡ self.designs }
+    {
+        let mut known = self;
+        let designs = known.designs.take();
+        (known, designs)
     }
 
     /// Returns how many documents have a winner that is marked so, where that was counted.
@@ -178,7 +203,8 @@ impl KnownDatabase {
             deleted: _,
             ranks,
             indexes,
-            entries,
+            index_ranks,
+            designs,
         } = self;
         KnownDatabase {
             name,
@@ -187,7 +213,8 @@ impl KnownDatabase {
             deleted: counts.deleted,
             ranks,
             indexes,
-            entries,
+            index_ranks,
+            designs,
         }
     }
 
@@ -202,7 +229,8 @@ impl KnownDatabase {
             deleted: gone,
             ranks,
             indexes,
-            entries,
+            index_ranks,
+            designs,
         } = self;
         KnownDatabase {
             name,
@@ -211,7 +239,8 @@ impl KnownDatabase {
             deleted: if deleted { Some(count) } else { gone },
             ranks,
             indexes,
-            entries,
+            index_ranks,
+            designs,
         }
     }
 }
@@ -329,27 +358,71 @@ pub(crate) fn keep_ranks(
     Some(known.with_ranks(ranks))
 }
 
-/// Finds how many entries the index of this declaration has, where that is known.
-pub(crate) fn find_entry_count(
-    known: &Option<KnownDatabase>,
-    declaration: &i64,
-) -> Option<EntryCount>
-    ensures { (trees : Trees) → IsKnown trees known.now → IfSome result (λ count. count.value ≡ entry_count trees declaration.now) }
+/// Parts what is known from the ranks of the keys of the indexes of the database of this number, where it is
+/// the known one.
+pub(crate) fn take_index_ranks(
+    known: Option<KnownDatabase>,
+    number: &i64,
+) -> (Option<KnownDatabase>, Option<Vec<IndexRanks>>)
+    ensures known { (trees : Trees) → IsKnown trees known → IsKnown trees result.0 }
+    ensures ranks { (trees : Trees) → IsKnown trees known → AreKnownRanks trees number.now result.1 }
 {
-    let known = known.as_ref()?;
-    let counts = known.entries.as_ref()?;
-    find_entries(counts, declaration)
+    let Some(known) = known else {
+        return (None, None);
+    };
+    if known.found.number != *number {
+        return (Some(known), None);
+    }
+    let (known, ranks) = known.split_index_ranks();
+    (Some(known), ranks)
 }
 
-/// Returns what is known, with how many entries an index has.
-pub(crate) fn keep_entry_count(
-    alloc: Global,
+/// Returns what is known, with these ranks of the keys of indexes of the database of this number, where it is
+/// the known one.
+pub(crate) fn keep_index_ranks(
     known: Option<KnownDatabase>,
-    count: EntryCount,
+    number: &i64,
+    ranks: Option<Vec<IndexRanks>>,
 ) -> Option<KnownDatabase>
-    ensures { (trees : Trees) → IsKnown trees known → count.value ≡ entry_count trees count.declaration → IsKnown trees result }
+    ensures { (trees : Trees) → IsKnown trees known → AreKnownRanks trees number.now ranks → IsKnown trees result }
 {
     let known = known?;
-    let (known, entries) = known.split_entries();
-    Some(known.with_entries(put_entries(alloc, entries, count)))
+    if known.found.number != *number {
+        return Some(known);
+    }
+    Some(known.with_index_ranks(ranks))
+}
+
+/// Parts what is known from the design documents of the database of this number, where it is the known one.
+pub(crate) fn take_designs(
+    known: Option<KnownDatabase>,
+    number: &i64,
+) -> (Option<KnownDatabase>, Option<Vec<KnownDesign>>)
+    ensures known { (trees : Trees) → IsKnown trees known → IsKnown trees result.0 }
+    ensures designs { (trees : Trees) → IsKnown trees known → AreKnownDesigns trees number.now result.1 }
+{
+    let Some(known) = known else {
+        return (None, None);
+    };
+    if known.found.number != *number {
+        return (Some(known), None);
+    }
+    let (known, designs) = known.split_designs();
+    (Some(known), designs)
+}
+
+/// Returns what is known, with these design documents of the database of this number, where it is the known
+/// one.
+pub(crate) fn keep_designs(
+    known: Option<KnownDatabase>,
+    number: &i64,
+    designs: Option<Vec<KnownDesign>>,
+) -> Option<KnownDatabase>
+    ensures { (trees : Trees) → IsKnown trees known → AreKnownDesigns trees number.now designs → IsKnown trees result }
+{
+    let known = known?;
+    if known.found.number != *number {
+        return Some(known);
+    }
+    Some(known.with_designs(designs))
 }

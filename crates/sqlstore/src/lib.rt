@@ -2,19 +2,27 @@
 #![tactic(auto)]
 
 mod database_names;
+mod design_range;
 mod document_count;
+mod document_keys;
 mod earlier;
-mod entry_count;
-mod entry_counts;
+mod entry_key;
 mod fault;
 mod first_rows;
 mod id_bounds;
 mod in_memory;
+mod index_ranks;
+mod key_change;
 mod known_counts;
 mod known_database;
+mod known_design;
+mod known_designs;
+mod known_indexes;
 pub mod laws;
+mod listed_ranks;
 mod listings;
 mod marked;
+mod moved_keys;
 mod moved_ranks;
 mod open_fault;
 mod opening;

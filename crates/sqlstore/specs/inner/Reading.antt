@@ -1,7 +1,6 @@
 -- What the rows of databases and names say, and when they are intact.
 -- This server's own: rows are read by the words of `tables`.
-use Rattle.std.specs.Prelude.{◌≡◌, ℕ, ◌-◌, ℤ, Bool, if◌then◌else◌, IfSome, IsTrue, List, [], ◌∷◌, length, filter, slice_get, Option, None, Some, Vec}
-use Rattle.std.specs.List.{AllByRecursion}
+use Rattle.std.specs.Prelude.{◌≡◌, ℕ, ◌-◌, ℤ, Bool, if◌then◌else◌, IsTrue, List, length, filter, slice_get, Option, None, Some, Vec}
 use Rattle.std.specs.declared.alloc.Global.{Global}
 use Rattle.couch_json.specs.Value as json
 use Rattle.couch_json.specs.View.{view}
@@ -10,16 +9,16 @@ use Rattle.sqlite_value.specs.declared.value.Value.TheVariants.{Blob}
 use Rattle.sqlite_value.specs.Order.{Row, bytes, column}
 use Rattle.tables.specs.Rows.{count_in_cell, is_named, json_in_cell, sequence_of_database, number_of, security_of, whole_in_cell}
 use Rattle.sqlite_trees.specs.Tree.{Trees}
-use Rattle.tables.specs.Schema.{dbs_tree, entries_tree}
+use Rattle.tables.specs.Schema.{dbs_tree}
 use Rattle.tables.specs.Shown.{revision_shown}
 use Rattle.tree.specs.Revision.{Revision}
-use Rattle.index.specs.Rows.{count_of}
 use Rattle.index.specs.declared.declaration.Declaration.{Declaration}
 use Rattle.ranks.specs.Seen.{Ranks}
 use Rattle.sqlstore.specs.declared.document_count.DocumentCount.{DocumentCount}
-use Rattle.sqlstore.specs.declared.entry_count.EntryCount.{EntryCount}
+use Rattle.sqlstore.specs.declared.index_ranks.IndexRanks.{IndexRanks}
 use Rattle.sqlstore.specs.declared.known_counts.KnownCounts.{KnownCounts}
 use Rattle.sqlstore.specs.declared.known_database.KnownDatabase.{KnownDatabase}
+use Rattle.sqlstore.specs.declared.known_design.KnownDesign.{KnownDesign}
 
 -- the number, the security object and the sequence of a database
 abbrev pub FoundValues : Type 0
@@ -40,13 +39,13 @@ numbers_in r = (number_of r, sequence_of_database r)
 abbrev pub known_values : KnownDatabase → FoundValues
 known_values k = (k.found.number, view k.found.security, k.found.sequence)
 
--- what is known after documents were written: the same, with this sequence and these indexes, and neither counts nor ranks
+-- what is known after documents were written: the same, with this sequence and these indexes, and neither counts, nor ranks, of ids or of keys, nor design documents
 abbrev pub at_sequence : ℕ → Vec Declaration Global → KnownDatabase → KnownDatabase
-at_sequence sequence indexes k = record k { found = record k.found { sequence = sequence }; live = None; deleted = None; ranks = None; indexes = Some indexes; entries = None }
+at_sequence sequence indexes k = record k { found = record k.found { sequence = sequence }; live = None; deleted = None; ranks = None; indexes = Some indexes; index_ranks = None; designs = None }
 
--- the same, but that neither an index is known, nor how many entries one has
+-- the same, but that neither an index is known, nor the ranks of the keys of one, nor design documents
 abbrev pub without_indexes : KnownDatabase → KnownDatabase
-without_indexes k = record k { indexes = None; entries = None }
+without_indexes k = record k { indexes = None; index_ranks = None; designs = None }
 
 -- the count of the documents whose winner is marked so
 abbrev pub count_kept : Bool → KnownDatabase → Option DocumentCount
@@ -68,21 +67,13 @@ with_counts counts k = record k { live = counts.live; deleted = counts.deleted }
 abbrev pub with_ranks : Option Ranks → KnownDatabase → KnownDatabase
 with_ranks ranks k = record k { ranks = ranks }
 
--- the same database, with how many entries its indexes have
-abbrev pub with_entries : Option (Vec EntryCount Global) → KnownDatabase → KnownDatabase
-with_entries entries k = record k { entries = entries }
+-- the same database, with these ranks of the keys of its indexes
+abbrev pub with_index_ranks : Option (Vec IndexRanks Global) → KnownDatabase → KnownDatabase
+with_index_ranks ranks k = record k { index_ranks = ranks }
 
--- how many entries the index of a declaration has
-abbrev pub entry_count : Trees → ℤ → ℕ
-entry_count trees declaration = count_of declaration [] (8 ∷ []) (trees entries_tree)
-
--- each of these numbers is that of the entries of its index
-abbrev pub AreEntryCounts : Trees → List EntryCount → Type 0
-AreEntryCounts trees counts = AllByRecursion (λ c. c.value ≡ entry_count trees c.declaration) counts
-
--- the same, where some were counted
-abbrev pub AreKnownEntries : Trees → Option (Vec EntryCount Global) → Type 0
-AreKnownEntries trees counts = IfSome counts (λ cs. AreEntryCounts trees cs.items)
+-- the same database, with these design documents
+abbrev pub with_designs : Option (Vec KnownDesign Global) → KnownDatabase → KnownDatabase
+with_designs designs k = record k { designs = designs }
 
 -- of what a query shows of its row
 abbrev pub found_shown : Row → FoundValues

@@ -2,9 +2,7 @@
 
 ghost use Rattle.std.specs.Prelude.{◌≡◌, ◌+◌, ◌≤◌, ◌<◌, ◌^◌};
 
-use crate::entry_count::EntryCount;
 use crate::fault::{judge_answer, judge_index};
-use crate::known_database::{find_entry_count, keep_entry_count};
 use crate::sql_store::SqlStore;
 use crate::sql_store::page_rows::limit_of;
 use index::{
@@ -51,9 +49,9 @@ impl<S: Alter> SqlStore<S> {
     ghost use Rattle.store.specs.Pages.{if_counted, up_to_limit};
     ghost use Rattle.store.specs.declared.listing.RowCounts.{RowCounts};
     ghost use Rattle.tables.specs.Schema.{decls_tree, entries_tree};
-    ghost use Rattle.sqlstore.specs.Model.{Answers, Finds, Stands, trees_of};
+    ghost use Rattle.sqlstore.specs.Model.{Answers, Finds, Stands, is_honest, trees_of};
     ghost use Rattle.sqlstore.specs.inner.ByKey.{AnswersOf, IsRangeOf};
-    ghost use Rattle.sqlstore.specs.inner.Reading.{entry_count};
+    ghost use Rattle.sqlstore.specs.inner.Keys.{HasIndex};
     ghost use Rattle.sqlstore.specs.inner.Commits.{IsUncommitted};
 
     // ---- what is stored of an index
@@ -160,8 +158,8 @@ impl<S: Alter> SqlStore<S> {
         judge_answer(&mut self.faults, &mut self.fetched, rows)
     }
 
-    /// Counts the entries of an index between two bounds.
-    fn count_between(
+    /// Counts the entries of an index between two bounds by one statement.
+    pub(crate) fn count_between(
         &mut self,
         declaration: &i64,
         low: &[u8],
@@ -215,6 +213,7 @@ impl<S: Alter> SqlStore<S> {
     /// Counts the entries of an index that come before a range, in its direction.
     fn count_before(
         &mut self,
+        number: &i64,
         declaration: &i64,
         low: &[u8],
         high: &[u8],
@@ -227,16 +226,17 @@ impl<S: Alter> SqlStore<S> {
     {
         if range.descending {
             let end = above_all(self.alloc)?;
-            return self.count_between(declaration, high, &end);
+            return self.count_keys(number, declaration, high, &end, true);
         }
         let start = Vec::new(self.alloc);
-        self.count_between(declaration, &start, low)
+        self.count_keys(number, declaration, &start, low, false)
     }
 
     /// Counts the rows that a page by key leaves out at the start of its range: as many as it skips, or all
     /// where there are fewer.
     fn count_skipped_keys(
         &mut self,
+        number: &i64,
         declaration: &i64,
         low: &[u8],
         high: &[u8],
@@ -250,33 +250,26 @@ impl<S: Alter> SqlStore<S> {
         if range.skip == 0 {
             return Ok(0);
         }
-        let within = self.count_between(declaration, low, high)?;
+        let within = self.count_keys(number, declaration, low, high, range.descending)?;
         Ok(min(range.skip, within))
     }
 
-    /// Finds how many entries an index has: that is known already, or else they are counted, and their number is
-    /// kept.
-    fn count_entries(&mut self, declaration: &i64) -> Result<u64, StoreFault>
-        ensures answer { Answers S.Store self.old self.new (λ n. n) (Some (entry_count (trees_of S.Store self.old) declaration.now)) result }
+    /// Counts the entries of an index.
+    fn count_entries(&mut self, number: &i64, declaration: &i64) -> Result<u64, StoreFault>
+        ensures answer { Answers S.Store self.old self.new (λ n. n)
+            (Some (count_of declaration.now [] (8 ∷ []) (trees_of S.Store self.old entries_tree))) result }
         ensures bounded { IfOk result (λ n. n < 2 ^ 63 - 1) }
         ensures stands { Stands S.Store self.old self.new }
     {
-        if let Some(count) = find_entry_count(&self.known, declaration) {
-            return Ok(count.value);
-        }
         let start = Vec::new(self.alloc);
         let end = above_all(self.alloc)?;
-        let value = self.count_between(declaration, &start, &end)?;
-        let known = self.known.take();
-        let declaration = copy_number(declaration);
-        let count = EntryCount { declaration, value };
-        self.known = keep_entry_count(self.alloc, known, count);
-        Ok(value)
+        self.count_keys(number, declaration, &start, &end, false)
     }
 
     /// Counts the rows outside of a page by key, where that is asked for.
     fn count_key_rows(
         &mut self,
+        number: &i64,
         declaration: &i64,
         low: &[u8],
         high: &[u8],
@@ -292,15 +285,16 @@ impl<S: Alter> SqlStore<S> {
         if !range.counted {
             return Ok(None);
         }
-        let total = self.count_entries(declaration)?;
-        let skipped = self.count_skipped_keys(declaration, low, high, range)?;
-        let before = self.count_before(declaration, low, high, range)?;
+        let total = self.count_entries(number, declaration)?;
+        let skipped = self.count_skipped_keys(number, declaration, low, high, range)?;
+        let before = self.count_before(number, declaration, low, high, range)?;
         Ok(Some(counts_of(before, skipped, total)))
     }
 
-    /// Finds the rows of an index, by key and cut by a range.
-    pub(crate) fn find_page_by_key(
+    /// Finds the rows of the index of a declaration, by key and cut by a range.
+    fn find_page_of(
         &mut self,
+        number: &i64,
         declaration: &i64,
         range: &KeyRange,
     ) -> Result<PageByKey, StoreFault>
@@ -312,7 +306,28 @@ impl<S: Alter> SqlStore<S> {
         let low = low_bound(self.alloc, range)?;
         let high = high_bound(self.alloc, range)?;
         let rows = self.list_key_rows(declaration, &low, &high, range)?;
-        let counts = self.count_key_rows(declaration, &low, &high, range)?;
+        let counts = self.count_key_rows(number, declaration, &low, &high, range)?;
         Ok(PageByKey { rows, counts })
+    }
+
+    /// Finds the rows of an index of a database, by key and cut by a range.
+    pub(crate) fn find_page_by_key(
+        &mut self,
+        number: &i64,
+        declaration: Declaration,
+        range: &KeyRange,
+    ) -> Result<PageByKey, StoreFault>
+        requires { is_honest S.Store self.old → HasIndex (trees_of S.Store self.old) number.now (declared declaration) }
+        ensures answer { (places : List IndexPlace)
+            → AnswersOf S.Store (declared declaration).number places self.old self.new key_page_of (key_page range.now places) result }
+        ensures counted { IfOk result (HasKeyCounts range.now) }
+        ensures stands { Stands S.Store self.old self.new }
+    {
+        if !range.counted {
+            return self.find_page_of(number, &declaration.number, range);
+        }
+        let index = copy_number(&declaration.number);
+        self.make_key_ranks(number, declaration);
+        self.find_page_of(number, &index, range)
     }
 }

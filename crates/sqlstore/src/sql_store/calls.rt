@@ -77,7 +77,7 @@ impl<S: Alter + Drop> Store for SqlStore<S> {
     #[tactic(auto, using(crate::proofs::Answering::reads, crate::proofs::Answering::stands_then))]
     fn winner(&mut self, name: &DbName, id: &DocId) -> Result<Option<MarkedRev>, StoreFault> {
         let found = self.find(name)?;
-        self.find_winner(&found.number, id)
+        self.give_winner(&found.number, id)
     }
 
     #[tactic(auto, using(crate::proofs::Answering::reads, crate::proofs::Answering::stands_then))]
@@ -88,13 +88,13 @@ impl<S: Alter + Drop> Store for SqlStore<S> {
         rev: &Rev,
     ) -> Result<Option<Entry>, StoreFault> {
         let found = self.find(name)?;
-        self.find_revision(&found.number, id, rev)
+        self.give_revision(&found.number, id, rev)
     }
 
     #[tactic(auto, using(crate::proofs::Answering::reads, crate::proofs::Answering::stands_then))]
     fn page_by_id(&mut self, name: &DbName, range: &IdRange) -> Result<PageById, StoreFault> {
         let found = self.find(name)?;
-        self.find_page_by_id(&found.number, range)
+        self.give_page_by_id(&found.number, range)
     }
 
     #[tactic(auto, using(crate::proofs::Answering::reads, crate::proofs::Answering::stands_then))]
@@ -117,7 +117,11 @@ impl<S: Alter + Drop> Store for SqlStore<S> {
     ) -> Result<Option<PageByKey>, StoreFault> {
         let found = self.find(name)?;
         match self.find_declaration(&found.number, design, index)? {
-            Some(declaration) => Ok(Some(self.find_page_by_key(&declaration.number, range)?)),
+            Some(declaration) => Ok(Some(self.find_page_by_key(
+                &found.number,
+                declaration,
+                range,
+            )?)),
             None => Ok(None),
         }
     }

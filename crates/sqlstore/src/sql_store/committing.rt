@@ -53,7 +53,7 @@ impl<S: Alter> SqlStore<S> {
     ghost use Rattle.sqlstore.specs.Model.{Moves, contents_of, is_honest, trees_of};
 
     /// Appends writes to the database of this number and this sequence, and moves the counts of its
-    /// documents that are known.
+    /// documents and the ranks of its indexes that are known.
     pub(crate) fn append_counted(
         &mut self,
         name: &DbName,
@@ -71,15 +71,45 @@ impl<S: Alter> SqlStore<S> {
         ensures moves { Moves S.Store self.old self.new }
     {
         let counted = self.find_counted(number, writes);
+        let keys = self.find_counted_keys(number, writes);
         self.append(name, number, sequence, writes)?;
+        self.move_index_ranks(number, keys, writes);
         if let Some(counted) = counted {
             self.move_counts(number, counted, writes);
         }
         Ok(())
     }
 
-    /// Appends writes to the database of this number and this sequence. No count of it is known then.
+    /// Appends writes to the database of this number and this sequence. Neither a count nor ranks of it are
+    /// known then; its design documents are still, where none of the writes is of one.
     fn append(
+        &mut self,
+        name: &DbName,
+        number: &i64,
+        sequence: u64,
+        writes: &[Write],
+    ) -> Result<(), StoreFault>
+        requires room { sequence + length writes.now < 2 ^ 63 }
+        requires due { is_honest S.Store self.old → AreDue (additions writes.now) name.now number.now sequence (trees_of S.Store self.old) }
+        ensures ok { is_honest S.Store self.new
+            → OnOk result (option_map (λ db. map.insert (contents_of S.Store self.old) name.now (with_all db (writings_in db (additions writes.now))))
+            (map.get (contents_of S.Store self.old) name.now) ≡ Some (contents_of S.Store self.new)) }
+        ensures elsewhere { is_honest S.Store self.new
+            → OnOk result (∥ KeepsElsewhere (ids_of writes.now) (documents_at (trees_of S.Store self.old) number.now)
+            (documents_at (trees_of S.Store self.new) number.now) ∥₁) }
+        ensures told { IfErr result (IsUncommitted self.old.faults self.new.faults (is_honest S.Store self.new)) }
+        ensures kept { OnErr result (self.new.last.value ≡ self.old.last.value) }
+        ensures moves { Moves S.Store self.old self.new }
+    {
+        let designs = self.part_designs(number);
+        self.append_rows(name, number, sequence, writes)?;
+        self.put_back_designs(number, designs, writes);
+        Ok(())
+    }
+
+    /// Appends writes to the database of this number and this sequence. Neither a count, nor ranks, nor a
+    /// design document of it are known then.
+    fn append_rows(
         &mut self,
         name: &DbName,
         number: &i64,

@@ -60,7 +60,8 @@ impl<S: Alter> SqlStore<S> {
             deleted: None,
             ranks: None,
             indexes: None,
-            entries: None,
+            index_ranks: None,
+            designs: None,
         })
     }
 

@@ -31,11 +31,12 @@ pub returns-clause-known : goal.returns-clause-known
 returns-clause-known g c honest =
     let trees = trees_of g.S.Store c.args.self.now in
     let named : c.in_ok-name.name ≡ c.args.name.now = search rules in
-    let k : KnownDatabase = record { name = c.in_ok-name.name; found = c.in_ok-found.found; live = None; deleted = None; ranks = None; indexes = None; entries = None } in
+    let k : KnownDatabase = record { name = c.in_ok-name.name; found = c.in_ok-found.found; live = None; deleted = None; ranks = None; indexes = None; index_ranks = None; designs = None } in
     ∣ record {
       row = ap (λ (n : List ℕ). option_map found_in (slice_get (filter (is_named n) (trees dbs_tree)) 0)) named ∙ returns-clause-answer g c honest;
       counts = uncounted trees k refl refl;
       ranked = tt;
       indexes = tt;
-      counted = tt;
+      index_ranked = tt;
+      designed = tt;
     } ∣₁

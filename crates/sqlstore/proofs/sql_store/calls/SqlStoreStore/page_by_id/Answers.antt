@@ -7,11 +7,11 @@ returns-in_err-found-clause-answer g c = not_found {X = DatabaseNumbers} g.S.Sto
 pub returns-clause-answer : goal.returns-clause-answer
 returns-clause-answer g c =
     let mid = c.find.new.self in
-    let end = c.find_page_by_id.new.self in
+    let end = c.give_page_by_id.new.self in
     let range = c.args.range.now in
     let n = c.in_ok-found.found.number in
-    afterwards g.S.Store c.args.self.now mid end id_page_of _ _ c.find_page_by_id.result c.find.ensures.stands
+    afterwards g.S.Store c.args.self.now mid end id_page_of _ _ c.give_page_by_id.result c.find.ensures.stands
     (λ honest.
-    let was = was_honest g.S.Store mid end c.find_page_by_id.ensures.stands honest in
+    let was = was_honest g.S.Store mid end c.give_page_by_id.ensures.stands honest in
     found_at g.S.Store c.args.self.now mid c.args.name.now _ c.find.ensures.stands was (c.in_ok-found.ensures.answer was) (λ t. Some (id_page range (live_rows (listed_by_id t n)))) (λ lay t. id_page_there _ _ _ lay t range))
-    c.find_page_by_id.ensures.answer
+    c.give_page_by_id.ensures.answer

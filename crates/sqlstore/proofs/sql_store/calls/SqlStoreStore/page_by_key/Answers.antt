@@ -5,8 +5,10 @@ use Rattle.store.specs.KeyPageStructs.{key_page_in, key_page_of}
 use Rattle.store.specs.declared.index_page.PageByKey.{PageByKey}
 use Rattle.sqlstore.proofs.Common.{Err, IndexPlace, NumberValues, Option, Result, Some, SqlStore, StoreFault, Trees, [], contents_of, get, key_page, option_map, page_of_keys}
 use Rattle.sqlstore.proofs.KeyEntries.{fault_any, no_page_found, page_found, pages_set}
+use Rattle.sqlstore.proofs.KeyRanking.{has_index}
 use Rattle.sqlstore.proofs.Lemmas.{DatabaseNumbers, List, ap, inside, not_found, numbers_in, rules, stands_same, stands_then, subst, sym, trees_of, was_honest, ∥∥₁_elim, ◌∙◌, ◌≡◌}
 use Rattle.sqlstore.specs.Model.{Answers, fault_count, is_honest}
+use Rattle.sqlstore.specs.inner.Keys.{HasIndex}
 use Rattle.tables.specs.Schema.{entries_tree}
 use Rattle.sqlstore.proofs.sql_store.calls.SqlStoreStore.page_by_key.Goals as goal
 
@@ -68,3 +70,13 @@ returns-in_err-find_page_by_key-in-Some-clause-answer g c =
     (λ p q. absurd p)
     (λ p. none (p.places, (honest, subst (λ (t : Trees). AreEntriesAt n p.places (t entries_tree)) (sym (stands_same g.S.Store s end to_end)) p.entries))))
     (λ places. c.in_err-find_page_by_key-in-Some.ensures.answer places))
+
+pub find_page_by_key-requires : goal.find_page_by_key-requires
+find_page_by_key-requires g c honest =
+    let first = c.find.new.self in
+    let second = c.find_declaration.new.self in
+    let n = c.in_ok-found.found.number in
+    let d = declared c.in-Some.declaration in
+    let told = inside _ _ (c.in_ok-declaration.ensures.answer honest) ∙ ap (option_map declared) c.in-Some.is in
+    subst (λ (t : Trees). HasIndex t n d) (sym (stands_same g.S.Store first second c.find_declaration.ensures.stands))
+    (has_index (trees_of g.S.Store first) n c.args.design.now c.args.index.now d told)

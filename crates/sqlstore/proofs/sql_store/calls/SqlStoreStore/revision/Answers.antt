@@ -10,8 +10,8 @@ returns-clause-answer g c =
     let mid = c.find.new.self in
     let id = c.args.id.now in
     let n = c.in_ok-found.found.number in
-    afterwards g.S.Store c.args.self.now mid c.find_revision.new.self (λ v. v) _ _ c.find_revision.result c.find.ensures.stands
+    afterwards g.S.Store c.args.self.now mid c.give_revision.new.self (λ v. v) _ _ c.give_revision.result c.find.ensures.stands
     (λ honest.
-    let was = was_honest g.S.Store mid c.find_revision.new.self c.find_revision.ensures.stands honest in
+    let was = was_honest g.S.Store mid c.give_revision.new.self c.give_revision.ensures.stands honest in
     found_at g.S.Store c.args.self.now mid c.args.name.now _ c.find.ensures.stands was (c.in_ok-found.ensures.answer was) (λ t. Some (finite.get (history_in_rows (t revs_tree) n id) c.args.rev.now)) (λ lay t. revision_there _ _ _ lay t id c.args.rev.now))
-    c.find_revision.ensures.answer
+    c.give_revision.ensures.answer

@@ -10,8 +10,8 @@ returns-clause-answer g c =
     let mid = c.find.new.self in
     let id = c.args.id.now in
     let n = c.in_ok-found.found.number in
-    afterwards g.S.Store c.args.self.now mid c.find_winner.new.self (λ v. v) _ _ c.find_winner.result c.find.ensures.stands
+    afterwards g.S.Store c.args.self.now mid c.give_winner.new.self (λ v. v) _ _ c.give_winner.result c.find.ensures.stands
     (λ honest.
-    let was = was_honest g.S.Store mid c.find_winner.new.self c.find_winner.ensures.stands honest in
+    let was = was_honest g.S.Store mid c.give_winner.new.self c.give_winner.ensures.stands honest in
     found_at g.S.Store c.args.self.now mid c.args.name.now _ c.find.ensures.stands was (c.in_ok-found.ensures.answer was) (λ t. Some (marked_winner (history_in_rows (t revs_tree) n id))) (λ lay t. winner_there _ _ _ lay t id))
-    c.find_winner.ensures.answer
+    c.give_winner.ensures.answer
