@@ -14,9 +14,9 @@ const MEMORY: &[u8] = br#"{"error":"service_unavailable","reason":"memory"}"#;
 
 /// What is asked of a node with the design document and the document a, and the reply. A document and
 /// its successor; a bulk with a refusal, a conflict, and two documents that are written; a conflict that is
-/// pushed; the index; a page from the middle, a document before it, and the page again. The revisions are
-/// python's hashlib.
-const STEPS: [(&str, &str, u16, &[u8]); 8] = [
+/// pushed; the index; a page from the middle, a document before it, and the page again; the index from a
+/// key on, documents before and behind it, and the index again. The revisions are python's hashlib.
+const STEPS: [(&str, &str, u16, &[u8]); 12] = [
     (
         "PUT /db/e",
         r#"{"v":1}"#,
@@ -67,6 +67,32 @@ const STEPS: [(&str, &str, u16, &[u8]); 8] = [
         "",
         200,
         br#"{"offset":3,"rows":[{"id":"c","key":"c","value":{"rev":"1-16dd5aa7b10d32bc038d45f5c7f9f929"}}],"total_rows":6}"#,
+    ),
+    (
+        "GET /db/_design/d/_view/v?startkey=%5B2%5D&limit=1",
+        "",
+        200,
+        br#"{"offset":2,"rows":[{"id":"e","key":[2],"value":null}],"total_rows":5}"#,
+    ),
+    (
+        "POST /db/_bulk_docs",
+        r#"{"docs":[{"_id":"h","_rev":"1-x","v":1},{"_id":"i","_rev":"1-x","v":1},{"_id":"j","_rev":"1-x","v":1},
+        {"_id":"k","_rev":"1-x","v":3},{"_id":"l","_rev":"1-x","v":1},
+        {"_id":"m","_rev":"1-x","v":1},{"_id":"n","_rev":"1-x","v":1}],"new_edits":false}"#,
+        201,
+        b"[]",
+    ),
+    (
+        "GET /db/_design/d/_view/v?startkey=%5B3%5D&limit=1",
+        "",
+        200,
+        br#"{"offset":10,"rows":[{"id":"k","key":[3],"value":null}],"total_rows":12}"#,
+    ),
+    (
+        "GET /db/_design/d/_view/v?startkey=%5B2%5D&descending=true&limit=1",
+        "",
+        200,
+        br#"{"offset":2,"rows":[{"id":"f","key":[2],"value":null}],"total_rows":12}"#,
     ),
 ];
 

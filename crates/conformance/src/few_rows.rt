@@ -8,7 +8,7 @@ const DESIGN: &str =
     r#"{"docs":[{"_id":"_design/i","_rev":"1-1","indexes":{"a":{"fields":["a"]}}}],"new_edits":false}"#;
 
 /// Requests that show one document of a thousand, and their replies.
-const REQUESTS: [(&str, &str, &str); 10] = [
+const REQUESTS: [(&str, &str, &str); 12] = [
     (
         "GET /db",
         "",
@@ -38,6 +38,16 @@ const REQUESTS: [(&str, &str, &str); 10] = [
         "GET /db/_design/i/_view/a?limit=1",
         "",
         r#"200 {"offset":0,"rows":[{"id":"d0000","key":[0],"value":null}],"total_rows":1000}"#,
+    ),
+    (
+        "GET /db/_design/i/_view/a?startkey=%5B500%5D&limit=1",
+        "",
+        r#"200 {"offset":500,"rows":[{"id":"d0500","key":[500],"value":null}],"total_rows":1000}"#,
+    ),
+    (
+        "GET /db/_design/i/_view/a?startkey=%5B500%5D&limit=1&descending=true",
+        "",
+        r#"200 {"offset":499,"rows":[{"id":"d0500","key":[500],"value":null}],"total_rows":1000}"#,
     ),
     (
         "POST /db/_find",
