@@ -62,7 +62,11 @@ class Book:
                 self.read(module, crate, os.path.relpath(path, top), file.read().split("\n"))
 
     def read(self, module, crate, path, lines):
-        """Takes in a file: the comment at its head, and its definitions by their names; members of a type lead to it."""
+        """Takes in a file: the comment at its head, and its definitions by their names; constructors lead to their type.
+
+        The name of a record's member leads nowhere: whoever takes a member of a value names the value's type, or a
+        definition whose type names it, and often a variable has the member's name.
+        """
         named, is_inner = self.modules.setdefault(module, {}), False
         names, comment, current, is_head = uses_in(lines), [], None, True
         self.heads[path] = lines[0].removeprefix("-- ")
@@ -82,7 +86,7 @@ class Book:
             elif text[0] == " " or not HEAD.match(text):
                 current.lines.append(text)
                 member = re.match(r"\s+(?:pub )?([\w'-]+)\s*:", text)
-                if member and current.kind in ("data", "record"):
+                if member and current.kind == "data":
                     named.setdefault(member[1], current)
             else:
                 is_head = False
