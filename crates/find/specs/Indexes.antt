@@ -27,13 +27,9 @@ design_id id = if is_document_id id && is_design_id id then Some id else None
 abbrev pub design_in : Value → Option (List ℕ)
 design_in v = option_and_then (λ name. design_id (codes "_design/" ++ name)) (text_in v)
 
--- a text that may name an index
-abbrev pub index_name_of : List ℕ → Option (List ℕ)
-index_name_of name = if is_index_name name then Some name else None
-
--- the name of an index in a value
+-- the name of an index in a value: a text that may name one
 abbrev pub index_name_in : Value → Option (List ℕ)
-index_name_in v = option_and_then index_name_of (text_in v)
+index_name_in v = option_and_then (λ name. if is_index_name name then Some name else None) (text_in v)
 
 -- 1 to 8 fields, each a path, which may say that it goes up
 abbrev pub field_list : Items → Option (List (List ℕ))

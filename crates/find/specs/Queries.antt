@@ -90,16 +90,11 @@ query_names = codes "selector" ∷ codes "sort" ∷ codes "limit" ∷ codes "ski
 abbrev pub default_limit : ℕ
 default_limit = 25
 
--- a query by its parts
-abbrev pub find_query_by : Value → List (List ℕ) → Bool → ℕ → ℕ → Query
-find_query_by selector sort descending limit skip =
-    record { selector = selector; sort = sort; descending = descending; limit = limit; skip = skip }
-
 -- the query of a find with this selector and sort; none where a count or a field of the sort is not of its form
 abbrev pub query_with : Value → Value → Items → Option Query
 query_with v selector entries =
     option_and_then (λ sort. option_and_then (λ limit. option_map (λ skip.
-    find_query_by selector sort (is_descending entries) limit skip)
+    record { selector = selector; sort = sort; descending = is_descending entries; limit = limit; skip = skip })
     (count_or 0 (member_of v (codes "skip")))) (count_or default_limit (member_of v (codes "limit"))))
     (sort_fields entries)
 

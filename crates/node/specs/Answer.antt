@@ -17,7 +17,7 @@ use Rattle.api.specs.Asking.{asker, denial, method_named, plain}
 use Rattle.api.specs.Paths.{database_name_in}
 use Rattle.api.specs.Refusals.{refusal_value, status_of, and_then, there_or, true_or}
 use Rattle.api.specs.Routing.{page_of}
-use Rattle.node.specs.Work.{Done, Effect, Work, appended, local_put, nothing, read_work, secured, with_effect}
+use Rattle.node.specs.Work.{Done, Effect, Work, nothing, read_work, with_effect}
 use Rattle.node.specs.Works.{change_list, database_read, difference_list, document_deleted, document_finds, document_list, document_read, document_written, documents_written, done, index_written, local_read, local_written, security_read, security_written, view_read}
 use Rattle.api.specs.declared.method.RequestMethod.{RequestMethod}
 use Rattle.api.specs.declared.method.RequestMethod.TheVariants.{Get, Put, Post, Delete}
@@ -63,9 +63,7 @@ reply value = record { status = 200; value = value; change = kept }
 -- an effect on a database as a change
 abbrev pub change_at : List ℕ → Effect → Change
 change_at name nothing = kept
-change_at name (appended ws) = inside name (appended ws)
-change_at name (secured security) = inside name (secured security)
-change_at name (local_put id document) = inside name (local_put id document)
+change_at name effect = inside name effect
 
 -- what was done in the database of this name
 abbrev pub outcome_in_database : List ℕ → Done → Outcome

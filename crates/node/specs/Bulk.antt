@@ -45,9 +45,8 @@ failure_listed caller id rev fault = object (put (codes "rev") (text_or_null rev
 
 -- the result of one document in front of others, where it failed
 abbrev pub if_failed : Identity → Told → Outcome → List Value → List Value
-if_failed caller told (Made rev) rest = rest
-if_failed caller told Known rest = rest
 if_failed caller told (Refused fault) rest = failure_listed caller told.id told.rev fault ∷ rest
+if_failed caller told outcome rest = rest
 
 -- of the replicated documents that were refused, in order
 abbrev pub failures_listed : Identity → List Told → List Value

@@ -7,13 +7,11 @@ use Rattle.api.specs.Asking.{denial}
 use Rattle.api.specs.declared.refusal.Refusal.{Refusal}
 use Rattle.api.specs.declared.refusal.Refusal.TheVariants.{BadDocument, BadHistory, Conflict, Generation}
 
--- What the write of a document is refused for: as a bad document, by a rule, for its history, as a conflict, or for want of a further
--- generation. No definition refuses it for the store's sake or for want of memory.
+-- What the write of a document is refused for: as a bad document, by a rule, for its history, for lack of a further generation, or as
+-- a conflict. No definition refuses it because the store failed or memory ran out.
 abbrev pub refusal_of_edit : Identity → WriteFault → Refusal
 refusal_of_edit caller write.BadDocument = BadDocument
 refusal_of_edit caller (write.Denied rule) = denial caller rule
 refusal_of_edit caller write.BadHistory = BadHistory
-refusal_of_edit caller write.Conflict = Conflict
 refusal_of_edit caller write.Generation = Generation
-refusal_of_edit caller (write.Store fault) = Conflict
-refusal_of_edit caller write.Memory = Conflict
+refusal_of_edit caller fault = Conflict

@@ -122,14 +122,10 @@ view_read m db =
 
 -- ---- indexes
 
--- an index that was declared is created, another one is there already
-abbrev pub index_result : Bool → Value
-index_result created = text (if created then codes "created" else codes "exists")
-
--- the id of the design document, the name of the index, and whether it was created
+-- the id of the design document, the name of the index, and whether it was created or is there already
 abbrev pub index_reply : List ℕ → List ℕ → Bool → Value
 index_reply id name created =
-    object (put (codes "result") (index_result created) (put (codes "name") (text name) (put (codes "id") (text id) no_members)))
+    object (put (codes "result") (text (if created then codes "created" else codes "exists")) (put (codes "name") (text name) (put (codes "id") (text id) no_members)))
 
 -- what the declaration of an index comes to
 abbrev pub index_done : Identity → List ℕ → List ℕ → DocumentOutcome → Result Done Refusal

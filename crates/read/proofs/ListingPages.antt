@@ -16,7 +16,8 @@ use Rattle.store.specs.declared.listing.RowCounts.{RowCounts}
 use Rattle.tree.proofs.Shown.{inside}
 use Rattle.read.specs.Listing.{listing_of}
 use Rattle.read.specs.inner.RowsSoFar.{AreCountable, whole_list, greatest_number, page_size, rows_by_fields, rows_by_id, rows_wanted}
-use Rattle.read.specs.Views.{key_row_object, view_by}
+use Rattle.read.specs.Shown.{found}
+use Rattle.read.specs.Views.{key_listing, key_row_object}
 use Rattle.read.specs.declared.listing_pages.RowsSoFar.{RowsSoFar}
 use Rattle.read.proofs.ChangePages.{take_parts}
 
@@ -53,7 +54,7 @@ part_of range skip most counted = record { low = range.low; high = range.high; d
 pub begun : (range : KeyRange) (d : Database) (declared : Option (List (List ℕ))) (so_far : RowsSoFar) (page : KeyPage) (counts : RowCounts)
     → option_map (λ fields. key_page (part_of range range.skip 0 true) (index_rows fields d)) declared ≡ Some page → page.counts ≡ Some counts → counts.total < 2 ^ 63
     → so_far ≡ record { skip = range.skip; left = rows_wanted range.limit; rows = [] }
-    → AreCountable (rows_by_fields range d declared) × (Ok (listing_of (whole_list key_row_object (rows_by_fields range d declared) so_far) counts) ≡ view_by range d declared)
+    → AreCountable (rows_by_fields range d declared) × (Ok (listing_of (whole_list key_row_object (rows_by_fields range d declared) so_far) counts) ≡ found (option_map (key_listing range d) declared))
 begun range d None so_far page counts paged is bounded fresh = absurd cc
 begun range d (Some fields) so_far page counts paged is bounded fresh =
     let rows = index_rows fields d in

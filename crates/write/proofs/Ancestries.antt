@@ -1,5 +1,5 @@
 -- A member that is taken out of a document; and what a document says without `_revisions`, which is the same.
-use Rattle.std.proofs.Common.{◌≡◌, ◌&&◌, ℕ, Bool, true, false, cond, List, [], ◌∷◌, String, Global, Option, Some, None, option_map, option_and_then, string_bytes, nat_le, refl, ap, sym, ◌∙◌}
+use Rattle.std.proofs.Common.{◌≡◌, ◌&&◌, ◌||◌, not, ℕ, Bool, true, false, cond, List, [], ◌∷◌, String, Global, Option, Some, None, option_map, option_and_then, string_bytes, nat_le, refl, ap, sym, ◌∙◌}
 use Rattle.std.proofs.lemmas.Map.Text.{is_eq-slice_cmp}
 use Rattle.std.proofs.lemmas.Slice.Eq.{bytes_eq-Decides}
 use Rattle.std.specs.Prelude.{bytes_eq, codes}
@@ -11,7 +11,7 @@ use Rattle.couch_json.specs.Value.{Value, null, truth, whole, text, array, objec
 use Rattle.couch_json.specs.View.{view, members_view}
 use Rattle.couch_json.specs.declared.value.Json.{Json}
 use Rattle.store.specs.Contents.{max_body_depth}
-use Rattle.write.specs.Document.{are_allowed, body_if, remaining_body, fits_id, is_allowed, is_body_for, is_special, mark_in, given_revision, sent_in, sent_with, without_member, without_name, without_special}
+use Rattle.write.specs.Document.{are_allowed, body_if, remaining_body, fits_id, is_body_for, is_document_member, is_special, mark_in, given_revision, sent_in, sent_with, without_member, without_name, without_special}
 
 abbrev pub Entry : Type 0
 Entry = String Global × Json
@@ -51,9 +51,9 @@ same_at : (name : List ℕ) → ((v : Value) (o : Option Value) → match_orderi
     → (ms : Members) → member_at name (without_name (codes "_revisions") ms) ≡ member_at name ms
 same_at name other = passes_over (member_at name) (λ k v o. match_ordering (slice_cmp nat_cmp name k) o (Some v) o) (λ k v ms. refl) other
 
-same_body : (ms : Members) → remaining_body (without_name (codes "_revisions") ms) ≡ remaining_body ms
+same_body : (ms : Members) → remaining_body is_document_member (without_name (codes "_revisions") ms) ≡ remaining_body is_document_member ms
 same_body ms =
-    let allowed = passes_over are_allowed (λ name v b. is_allowed name && b) (λ name v rest. refl) (λ v b. refl) ms in
+    let allowed = passes_over (are_allowed is_document_member) (λ name v b. (not (is_special name) || is_document_member name) && b) (λ name v rest. refl) (λ v b. refl) ms in
     let plain = passes_over without_special (λ name v rest. cond (is_special name) rest (member name v rest)) (λ name v rest. refl) (λ v rest. refl) ms in
     (λ i. body_if (allowed i && nat_le (depth (object (plain i))) max_body_depth) (object (plain i)))
 

@@ -8,7 +8,7 @@ use Rattle.couch_json.specs.declared.value.Json.{Json}
 use Rattle.store.specs.Contents.{max_body_depth}
 use Rattle.store.specs.Lawful.{IsBody}
 use Rattle.tree.specs.Revision.{Revision}
-use Rattle.write.specs.Document.{are_allowed, body_for, body_if, body_in, is_body_for, is_special, sent_in, sent_with, without_special, words_in}
+use Rattle.write.specs.Document.{are_allowed, body_for, body_if, body_in, is_body_for, is_document_member, is_special, sent_in, sent_with, without_special, words_in}
 use Rattle.write.specs.declared.document.ParsedDocument.{ParsedDocument}
 
 abbrev pub Entry : Type 0
@@ -41,7 +41,7 @@ body_if-Some allowed v body is_obj h =
     rw same (record { object = is_obj; shallow = within allowed (depth v) test })
 
 body_in-Some : (document body : Value) → body_in document ≡ Some body → IsBody body
-body_in-Some (object ms) body h = body_if-Some (are_allowed ms) (object (without_special ms)) body refl h
+body_in-Some (object ms) body h = body_if-Some (are_allowed is_document_member ms) (object (without_special ms)) body refl h
 body_in-Some null body h = absurd cc
 body_in-Some (truth b) body h = absurd cc
 body_in-Some (whole n) body h = absurd cc

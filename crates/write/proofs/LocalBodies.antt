@@ -4,14 +4,14 @@ use Rattle.couch_json.specs.Value.{Value, null, truth, whole, text, array, objec
 use Rattle.store.specs.Lawful.{IsBody}
 use Rattle.store.specs.declared.local_document.LocalDocument.{LocalDocument}
 use Rattle.write.specs.Admission.{given}
-use Rattle.write.specs.Document.{without_special}
-use Rattle.write.specs.LocalWrites.{are_local_allowed, local_body, local_outcome, local_rev, names_stored, next_number}
+use Rattle.write.specs.Document.{are_allowed, without_special}
+use Rattle.write.specs.LocalWrites.{is_local_member, local_body, local_outcome, local_rev, names_stored, next_number}
 use Rattle.write.specs.declared.fault.WriteFault.{WriteFault}
 use Rattle.write.specs.declared.fault.WriteFault.TheVariants.{BadDocument, Conflict, Generation}
 use Rattle.write.proofs.Bodies.{body_if-Some}
 
 pub local_body-Some : (document body : Value) → local_body document ≡ Some body → IsBody body
-local_body-Some (object ms) body h = body_if-Some (are_local_allowed ms) (object (without_special ms)) body refl h
+local_body-Some (object ms) body h = body_if-Some (are_allowed is_local_member ms) (object (without_special ms)) body refl h
 local_body-Some null body h = absurd cc
 local_body-Some (truth b) body h = absurd cc
 local_body-Some (whole n) body h = absurd cc

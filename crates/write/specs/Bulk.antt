@@ -43,8 +43,7 @@ outcome_in terms new_edits histories document =
 -- the histories after an outcome
 abbrev pub after : Histories → DocumentOutcome → Histories
 after histories (Ok (Some w)) = with_write_in histories w
-after histories (Ok None) = histories
-after histories (Err fault) = histories
+after histories outcome = histories
 
 -- what becomes of each document, in order, by the histories that those before it left; the terms are the same for all of them
 abbrev pub outcomes : Terms → Bool → Histories → List Value → List DocumentOutcome
@@ -55,8 +54,7 @@ outcomes terms new_edits histories (v ∷ vs) =
 -- the write of an outcome in front of others, if it makes one
 abbrev pub put_before : DocumentOutcome → List DocumentWrite → List DocumentWrite
 put_before (Ok (Some w)) ws = w ∷ ws
-put_before (Ok None) ws = ws
-put_before (Err fault) ws = ws
+put_before outcome ws = ws
 
 -- the writes that are appended, in order
 abbrev pub writes_in : List DocumentOutcome → List DocumentWrite

@@ -12,15 +12,6 @@ use Rattle.write.specs.declared.document.ParsedDocument.{ParsedDocument}
 
 -- ---- parts of a value
 
--- a number that is not negative
-abbrev pub natural : ℤ → Option ℕ
-natural (pos n) = Some n
-natural (negsuc n) = None
-
--- the number that a value is, from 0
-abbrev pub natural_in : Value → Option ℕ
-natural_in v = option_and_then (λ n. natural n) (whole_in v)
-
 -- the text of a member, where there is one and it is a text
 abbrev pub member_text : List ℕ → Value → Option (List ℕ)
 member_text name v = option_and_then (λ m. text_in m) (member_of v name)
@@ -36,14 +27,10 @@ abbrev pub is_document_member : List ℕ → Bool
 is_document_member name =
     bytes_eq name (codes "_id") || bytes_eq name (codes "_rev") || bytes_eq name (codes "_deleted") || bytes_eq name (codes "_revisions")
 
--- a name without an underscore in front, or one of those that documents have
-abbrev pub is_allowed : List ℕ → Bool
-is_allowed name = not (is_special name) || is_document_member name
-
--- each member is one that a document may have
-abbrev pub are_allowed : Members → Bool
-are_allowed no_members = true
-are_allowed (member name v ms) = is_allowed name && are_allowed ms
+-- each special member is one of those that are known
+abbrev pub are_allowed : (List ℕ → Bool) → Members → Bool
+are_allowed is_known no_members = true
+are_allowed is_known (member name v ms) = (not (is_special name) || is_known name) && are_allowed is_known ms
 
 -- the members whose names don't begin with an underscore
 abbrev pub without_special : Members → Members
@@ -86,14 +73,14 @@ words_in id document = if fits_id id (member_of document (codes "_id")) then wor
 abbrev pub body_if : Bool → Value → Option Value
 body_if good body = if good then Some body else None
 
--- what is left of members without the special ones, where they have no others than a document may have and aren't nested too deep
-abbrev pub remaining_body : Members → Option Value
-remaining_body ms =
-    body_if (are_allowed ms && nat_le (depth (object (without_special ms))) max_body_depth) (object (without_special ms))
+-- what is left of members without the special ones, where these are known and the others aren't nested too deep
+abbrev pub remaining_body : (List ℕ → Bool) → Members → Option Value
+remaining_body is_known ms =
+    body_if (are_allowed is_known ms && nat_le (depth (object (without_special ms))) max_body_depth) (object (without_special ms))
 
--- the same of a document, which is an object
+-- the body of a document, which is an object with no other special members than a document may have
 abbrev pub body_in : Value → Option Value
-body_in document = option_and_then (λ ms. remaining_body ms) (members_in document)
+body_in document = option_and_then (λ ms. remaining_body is_document_member ms) (members_in document)
 
 -- a design document has the body of one, also where it is deleted
 abbrev pub is_body_for : List ℕ → Value → Bool
@@ -156,13 +143,14 @@ abbrev pub path_of_hashes : Items → Option (List Revision)
 path_of_hashes no_items = Some []
 path_of_hashes (item v vs) = onto (option_and_then (λ hash. revision_of (suc (item_count vs)) hash) (text_in v)) (path_of_hashes vs)
 
--- the number of a revision
-abbrev pub number_if : ℕ → Option ℕ
-number_if n = if nat_le 1 n && nat_le n greatest_number then Some n else None
+-- a number that is one of a revision
+abbrev pub number_if : ℤ → Option ℕ
+number_if (pos n) = if nat_le 1 n && nat_le n greatest_number then Some n else None
+number_if (negsuc n) = None
 
 -- the number that `start` gives the newest revision
 abbrev pub start_in : Value → Option ℕ
-start_in v = option_and_then (λ n. number_if n) (option_and_then (λ m. natural_in m) (member_of v (codes "start")))
+start_in v = option_and_then (λ n. number_if n) (option_and_then (λ m. whole_in m) (member_of v (codes "start")))
 
 -- the revisions of `ids`, numbered from the oldest, which is the first of all
 abbrev pub ids_in : Value → Option (List Revision)

@@ -1,6 +1,6 @@
 -- What becomes of an index that is declared: its design document is edited, unless it declares this index already.
 -- CouchDB manual, api/database/find (`POST /{db}/_index`: `created` or `exists`); that the index stands in the member `indexes` of the design document, and that a denial comes before `exists`, are this server's own.
-use Rattle.std.specs.Prelude.{ℕ, Bool, List, map, codes, Option, Some, None, option_and_then, Ok, if◌then◌else◌}
+use Rattle.std.specs.Prelude.{ℕ, Bool, List, map, codes, Option, None, option_and_then, unwrap_or, Ok, if◌then◌else◌}
 use Rattle.std.specs.Ordering.{is_eq}
 use Rattle.couch_json.specs.Collation.{collation}
 use Rattle.couch_json.specs.Parts.{is_there_and, members_in}
@@ -17,22 +17,15 @@ use Rattle.write.specs.Terms.{Terms}
 abbrev pub index_value : List (List ℕ) → Value
 index_value fields = object (put (codes "fields") (array (items_of (map text fields))) no_members)
 
--- the members of an object, or none
-abbrev pub members_or_none : Option Members → Members
-members_or_none None = no_members
-members_or_none (Some ms) = ms
-
 -- the members of a value, where there is one that is an object
 abbrev pub members_if : Option Value → Members
-members_if v = members_or_none (option_and_then members_in v)
+members_if v = unwrap_or (option_and_then members_in v) no_members
 
--- the indexes of a body, where there is one; an `indexes` that is no object counts as an empty one
-abbrev pub index_members : Option Value → Members
-index_members body = members_if (option_and_then (λ b. member_of b (codes "indexes")) body)
-
--- the body with this index beside its others, in the place of the one of its name; where there is no body, an empty one with it
+-- The body with this index beside its others, in the place of the one of its name; where there is no body, an empty one with it. An
+-- `indexes` that is no object counts as an empty one.
 abbrev pub with_index : List ℕ → Value → Option Value → Value
-with_index name index body = object (put (codes "indexes") (object (put name index (index_members body))) (members_if body))
+with_index name index body =
+    object (put (codes "indexes") (object (put name index (members_if (option_and_then (λ b. member_of b (codes "indexes")) body)))) (members_if body))
 
 -- the design document that declares the index: its winner, where that is not deleted, with it
 abbrev pub index_document : HistoryContent → List ℕ → List (List ℕ) → Value

@@ -1,13 +1,13 @@
 -- What becomes of a local document that a client writes: it follows the stored one by its number, or is refused.
 -- CouchDB manual, api/local (local documents have no history and are not replicated); that a write has to name the stored revision, and that no other special members are taken, are this server's own.
-use Rattle.std.specs.Prelude.{ℕ, ◌+◌, Bool, true, false, not, ◌&&◌, ◌||◌, if◌then◌else◌, List, Option, Some, None, option_map, option_and_then, codes, nat_le, nat_lt, bytes_eq, Result, Ok, Err}
+use Rattle.std.specs.Prelude.{ℕ, ◌+◌, Bool, true, false, ◌||◌, if◌then◌else◌, List, Option, Some, None, option_map, option_and_then, codes, nat_lt, bytes_eq, Result, Ok, Err}
 use Rattle.couch_json.specs.Parts.{members_in, text_in}
-use Rattle.couch_json.specs.Value.{Value, object, Members, no_members, member, member_of, depth}
-use Rattle.store.specs.Contents.{local_revision, max_body_depth}
+use Rattle.couch_json.specs.Value.{Value, member_of}
+use Rattle.store.specs.Contents.{local_revision}
 use Rattle.store.specs.declared.local_document.LocalDocument.{LocalDocument}
 use Rattle.tree.specs.Revision.{greatest_number}
 use Rattle.write.specs.Admission.{given}
-use Rattle.write.specs.Document.{body_if, fits_id, is_special, without_special}
+use Rattle.write.specs.Document.{fits_id, remaining_body}
 use Rattle.write.specs.declared.fault.WriteFault.{WriteFault}
 use Rattle.write.specs.declared.fault.WriteFault.TheVariants.{BadDocument, Conflict, Generation}
 
@@ -15,24 +15,9 @@ use Rattle.write.specs.declared.fault.WriteFault.TheVariants.{BadDocument, Confl
 abbrev pub is_local_member : List ℕ → Bool
 is_local_member name = bytes_eq name (codes "_id") || bytes_eq name (codes "_rev")
 
--- a name without an underscore in front, or one of those that local documents have
-abbrev pub is_local_allowed : List ℕ → Bool
-is_local_allowed name = not (is_special name) || is_local_member name
-
--- each member is one that a local document may have
-abbrev pub are_local_allowed : Members → Bool
-are_local_allowed no_members = true
-are_local_allowed (member name v ms) = is_local_allowed name && are_local_allowed ms
-
--- what is left of members without the special ones, where they have no others than a local document may have and aren't nested too
--- deep
-abbrev pub local_body_of : Members → Option Value
-local_body_of ms =
-    body_if (are_local_allowed ms && nat_le (depth (object (without_special ms))) max_body_depth) (object (without_special ms))
-
--- the body of a local document
+-- the body of a local document, which is an object with no other special members than a local document may have
 abbrev pub local_body : Value → Option Value
-local_body document = option_and_then (λ ms. local_body_of ms) (members_in document)
+local_body document = option_and_then (λ ms. remaining_body is_local_member ms) (members_in document)
 
 -- `_rev`, where it is given, has to be a text
 abbrev pub local_rev_in : Option Value → Option (Option (List ℕ))

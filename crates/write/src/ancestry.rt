@@ -6,7 +6,7 @@ ghost use Rattle.couch_json.specs.Value.{member_of};
 ghost use Rattle.couch_json.specs.View.{view, items_view};
 ghost use Rattle.tree.specs.Revision.{Revision, revision_of};
 ghost use Rattle.write.specs.inner.AncestryRead.{ancestry_of};
-ghost use Rattle.write.specs.Document.{ancestry_alone, ancestry_by, ancestry_if_newest, given_revisions, is_newest, natural};
+ghost use Rattle.write.specs.Document.{ancestry_alone, ancestry_by, ancestry_if_newest, given_revisions, is_newest};
 ghost use Rattle.write.specs.Document.{number_if, path_of_hashes, ancestry_given, sent_in, start_in, without_member};
 
 use couch_json::{Got, Json};
@@ -134,7 +134,7 @@ fn read_start(value: &Json) -> Option<u32>
 
 /// Keeps a number that is one of a revision.
 fn check_number(number: i128) -> Option<u32>
-    ensures { result ≡ option_and_then number_if (natural number) }
+    ensures { result ≡ number_if number }
 {
     if number < 1 || number > 2_147_483_647 {
         return None;

@@ -2,7 +2,7 @@
 
 ghost use Rattle.std.specs.Prelude.{◌≡◌, IfOk, option_map, string_bytes};
 ghost use Rattle.couch_json.specs.View.{view, members_view};
-ghost use Rattle.write.specs.Document.{are_allowed, body_for, body_in, fits_id, id_in_bulk, id_in, is_allowed, is_body_for, is_document_member};
+ghost use Rattle.write.specs.Document.{are_allowed, body_for, body_in, fits_id, id_in_bulk, id_in, is_body_for, is_document_member};
 ghost use Rattle.write.specs.Document.{is_special, mark_in, member_text, given_revision, sent_in, without_special, words_in};
 
 use couch_json::{Got, Json, NameMap, NoMemory};
@@ -96,20 +96,14 @@ fn strip(alloc: Global, document: Json) -> Option<Json>
 }
 
 fn are_allowed(members: &NameMap<Json>) -> bool
-    ensures { result ≡ are_allowed (members_view members.now.entries) }
+    ensures { result ≡ are_allowed is_document_member (members_view members.now.entries) }
 {
     for (name, _value) in members.as_slice() {
-        if !is_allowed(name) {
+        if is_special(name) && !is_document_member(name) {
             return false;
         }
     }
     true
-}
-
-fn is_allowed(name: &str) -> bool
-    ensures { result ≡ is_allowed name.now }
-{
-    !is_special(name) || is_document_member(name)
 }
 
 /// Tells whether a member is special, by its name.

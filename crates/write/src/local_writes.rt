@@ -6,7 +6,8 @@ ghost use Rattle.couch_json.specs.View.{view, members_view};
 ghost use Rattle.store.specs.Calls.{OnlyReads};
 ghost use Rattle.store.specs.Contents.{IfThere, local_at};
 ghost use Rattle.store.specs.Database.{Database};
-ghost use Rattle.write.specs.LocalWrites.{are_local_allowed, is_local_allowed, is_local_member, local_body};
+ghost use Rattle.write.specs.Document.{are_allowed};
+ghost use Rattle.write.specs.LocalWrites.{is_local_member, local_body};
 ghost use Rattle.write.specs.LocalWrites.{local_outcome, local_rev, local_rev_in, names_stored, next_number};
 ghost use Rattle.write.specs.Planning.{IsLocal, IsLocalOf, MayBeMade};
 ghost use Rattle.write.specs.Refusing.{IsDecided, IsOfStoreOrMemory, IsOwn, Refuses};
@@ -144,20 +145,14 @@ fn strip_local(alloc: Global, document: Json) -> Option<Json>
 }
 
 fn are_local_allowed(members: &NameMap<Json>) -> bool
-    ensures { result ≡ are_local_allowed (members_view members.now.entries) }
+    ensures { result ≡ are_allowed is_local_member (members_view members.now.entries) }
 {
     for (name, _value) in members.as_slice() {
-        if !is_local_allowed(name) {
+        if is_special(name) && !is_local_member(name) {
             return false;
         }
     }
     true
-}
-
-fn is_local_allowed(name: &str) -> bool
-    ensures { result ≡ is_local_allowed name.now }
-{
-    !is_special(name) || is_local_member(name)
 }
 
 fn is_local_member(name: &str) -> bool
