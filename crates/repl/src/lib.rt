@@ -10,6 +10,7 @@ mod config;
 mod count;
 mod element;
 mod ending;
+mod label;
 pub mod laws;
 mod members;
 mod opened;

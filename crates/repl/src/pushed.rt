@@ -8,9 +8,9 @@ ghost use Rattle.repl.specs.Shapes.{list_in};
 ghost use Rattle.repl.specs.Taken.{said_as};
 
 use crate::element::{Shape, read_each};
+use crate::label::{label_at, rule_in};
 use crate::members::{put_text, text_at};
 use crate::replies::value_in;
-use crate::shapes::{label_at, rule_in};
 use crate::why::Why;
 use couch_json::{Got, Json, NameMap, put_member};
 use std::alloc::Global;
@@ -54,19 +54,23 @@ impl Shape for FailureShape {
         let Some(error) = text_at(value, "error") else {
             return Ok(None);
         };
-        let Some(id) = label_at(value, "id") else {
+        let id = label_at(value, "id");
+        if id.is_malformed() {
             return Ok(None);
-        };
+        }
         let Some(reason) = text_at(value, "reason") else {
             return Ok(None);
         };
-        let Some(rev) = label_at(value, "rev") else {
+        let rev = label_at(value, "rev");
+        if rev.is_malformed() {
             return Ok(None);
-        };
-        let Some(rule) = rule_in(value.member("rule")) else {
+        }
+        let rule = rule_in(value.member("rule"));
+        if rule.is_malformed() {
             return Ok(None);
-        };
-        Ok(Some(failure_report(alloc, error, id, reason, rev, rule)?))
+        }
+        let report = failure_report(alloc, error, id.text(), reason, rev.text(), rule.text())?;
+        Ok(Some(report))
     }
 }
 

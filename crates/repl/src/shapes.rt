@@ -1,12 +1,12 @@
 //! The shapes in which replies say what they say.
 
-ghost use Rattle.std.specs.Prelude.{◌≡◌, ℕ, List, IfOk, map, option_and_then, option_copied, option_map, string_bytes, codes};
+ghost use Rattle.std.specs.Prelude.{◌≡◌, ℕ, List, IfOk, map, option_and_then, option_map, string_bytes, codes};
 ghost use Rattle.couch_json.specs.Parts.{items_in, text_in};
 ghost use Rattle.couch_json.specs.Value.{member_of};
 ghost use Rattle.couch_json.specs.View.{items_view, view};
 ghost use Rattle.repl.specs.Calls.{Revisions};
 ghost use Rattle.repl.specs.Listed.{revisions_of};
-ghost use Rattle.repl.specs.Replies.{change_in, label_at, label_in, missing_in, revision_in_reply, rule_in_reply};
+ghost use Rattle.repl.specs.Replies.{change_in, missing_in, revision_in_reply};
 ghost use Rattle.repl.specs.Shapes.{list_at, texts_at};
 
 use crate::element::{Shape, read_each};
@@ -106,39 +106,5 @@ impl Shape for LeafShape {
             Some(revision) => Ok(Some(String::from_str(alloc, revision)?)),
             None => Ok(None),
         }
-    }
-}
-
-/// Returns the text of a member, or `None` inside where null stands for it.
-pub fn label_at<'a>(value: &'a Json, name: &str) -> Option<Option<&'a str>>
-    ensures { option_map option_copied result ≡ label_at name.now (view value.now) }
-{
-    match value.member(name) {
-        Some(member) => label_in(member),
-        None => None,
-    }
-}
-
-/// Returns a text, or `None` inside where null stands for it.
-fn label_in(value: &Json) -> Option<Option<&str>>
-    ensures { option_map option_copied result ≡ label_in (view value.now) }
-{
-    match value {
-        Json::Null => Some(None),
-        Json::Text(text) => Some(Some(text.as_str())),
-        _ => None,
-    }
-}
-
-/// Returns the rule that a failure names, if it names one.
-pub fn rule_in(value: Option<&Json>) -> Option<Option<&str>>
-    ensures { option_map option_copied result ≡ rule_in_reply (option_map (λ v. view v.now) value.entry) }
-{
-    match value {
-        None => Some(None),
-        Some(value) => match value.text() {
-            Some(rule) => Some(Some(rule)),
-            None => None,
-        },
     }
 }
