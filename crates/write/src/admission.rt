@@ -7,16 +7,28 @@ ghost use Rattle.tree.specs.History.{HistoryContent, ancestors_of_parent, is_kno
 ghost use Rattle.store.specs.Writing.{addition_of, written_in};
 ghost use Rattle.write.specs.Admission.{design_refusal, edit_of, edit_outcome, given, implicit_parent, named_revision, next_edit};
 ghost use Rattle.write.specs.Admission.{parent_for_edit, revision_after, rule_refusal, unless_denied, write_at};
+ghost use Rattle.write.specs.inner.Edits.{base_of, named_of};
 ghost use Rattle.write.specs.inner.Following.{edit_following};
 
 use crate::denial::find_rule_refusal;
-use crate::document::{ParsedDocument, read_sent};
+use crate::document::{NamedRevision, ParsedDocument, read_sent};
 use crate::fault::WriteFault;
 use crate::request_terms::RequestTerms;
 use couch_json::{Got, Json, NoMemory};
 use std::alloc::Global;
 use store::Write;
 use tree::{Body, DocId, History, Rev, RevFault, next_rev};
+
+/// What an edit follows.
+#[derive(Clone, Copy, Drop)]
+enum Base {
+    /// No revision, since the document was never written.
+    New,
+    /// This leaf.
+    Leaf(Rev),
+    /// There is nothing that it may follow.
+    Conflict,
+}
 
 /// Judges an edit of a document with this history: its write, or why it is refused.
 pub(crate) fn admit_edit(
@@ -76,10 +88,11 @@ pub(crate) fn admit_sent(
     ensures others { IfErr result (λ fault. (fault ≢ WriteFault.BadHistory) × ((cause : _) → fault ≢ WriteFault.Store cause)) }
     ensures terms { terms.new ≡ terms.old }
 {
-    let Some(parent) = find_base(history, sent.rev) else {
-        return Err(WriteFault::Conflict);
-    };
-    write_next(alloc, terms, history, id, sent, parent)
+    match find_base(history, sent.rev) {
+        Base::New => write_next(alloc, terms, history, id, sent, None),
+        Base::Leaf(leaf) => write_next(alloc, terms, history, id, sent, Some(leaf)),
+        Base::Conflict => Err(WriteFault::Conflict),
+    }
 }
 
 /// Reads what an edit says, with the revision that its query names; `None` where the document is a
@@ -96,51 +109,55 @@ fn read_edit(
         return Ok(None);
     };
     match match_revisions(query, sent.rev) {
-        Some(rev) => Ok(Some(ParsedDocument { rev, ..sent })),
-        None => Ok(None),
+        NamedRevision::Absent => Ok(Some(ParsedDocument { rev: None, ..sent })),
+        NamedRevision::Malformed => Ok(None),
+        NamedRevision::Given(rev) => Ok(Some(ParsedDocument {
+            rev: Some(rev),
+            ..sent
+        })),
     }
 }
 
 /// Returns the revision that an edit names: in its query, in its document, or in both alike.
-fn match_revisions(query: Option<Rev>, own: Option<Rev>) -> Option<Option<Rev>>
-    ensures { result ≡ named_revision query own }
+fn match_revisions(query: Option<Rev>, own: Option<Rev>) -> NamedRevision
+    ensures { named_of result ≡ named_revision query own }
 {
-    let Some(rev) = query else {
-        return Some(own);
-    };
-    match own {
-        None => Some(Some(rev)),
-        Some(own) => {
+    match (query, own) {
+        (None, None) => NamedRevision::Absent,
+        (Some(rev), None) | (None, Some(rev)) => NamedRevision::Given(rev),
+        (Some(rev), Some(own)) => {
             if rev.cmp(&own).is_eq() {
-                Some(Some(rev))
+                NamedRevision::Given(rev)
             } else {
-                None
+                NamedRevision::Malformed
             }
         }
     }
 }
 
-/// Finds the revision that an edit follows, if any, or `None` where it is a conflict.
-fn find_base(history: &History, rev: Option<Rev>) -> Option<Option<Rev>>
-    ensures { result ≡ parent_for_edit history.now rev }
+/// Finds what an edit that names this revision, or none, follows.
+fn find_base(history: &History, rev: Option<Rev>) -> Base
+    ensures { base_of result ≡ parent_for_edit history.now rev }
 {
     let Some(rev) = rev else {
         return find_extended_leaf(history);
     };
     if !history.is_leaf(&rev) {
-        return None;
+        return Base::Conflict;
     }
-    Some(Some(rev))
+    Base::Leaf(rev)
 }
 
-/// Finds the revision that an edit without one follows.
-fn find_extended_leaf(history: &History) -> Option<Option<Rev>>
-    ensures { result ≡ implicit_parent history.now (winner history.now) }
+/// Finds what an edit that names no revision follows.
+fn find_extended_leaf(history: &History) -> Base
+    ensures { base_of result ≡ implicit_parent history.now (winner history.now) }
 {
     if history.is_live() {
-        None
-    } else {
-        Some(history.winner().copied())
+        return Base::Conflict;
+    }
+    match history.winner().copied() {
+        Some(leaf) => Base::Leaf(leaf),
+        None => Base::New,
     }
 }
 

@@ -5,7 +5,7 @@ ghost use Rattle.couch_json.specs.Parts.{items_in, text_in};
 ghost use Rattle.couch_json.specs.Value.{member_of};
 ghost use Rattle.couch_json.specs.View.{view, items_view};
 ghost use Rattle.tree.specs.Revision.{Revision, revision_of};
-ghost use Rattle.write.specs.inner.AncestryRead.{ancestry_of};
+ghost use Rattle.write.specs.inner.AncestryRead.{ancestry_of, given_of};
 ghost use Rattle.write.specs.Document.{ancestry_alone, ancestry_by, ancestry_if_newest, given_revisions, is_newest};
 ghost use Rattle.write.specs.Document.{number_if, path_of_hashes, ancestry_given, sent_in, start_in, without_member};
 
@@ -22,16 +22,38 @@ pub(crate) struct Ancestry {
     pub(crate) path: Vec<Rev>,
 }
 
-/// Takes `_revisions` out of a document and reads what it says, where it is given: `Some(None)` where it
-/// is not of its form. Returns the rest of the document beside it, which says the same besides.
-pub(crate) fn take_given(alloc: Global, document: Json) -> Got<(Option<Option<Ancestry>>, Json)>
-    ensures given { IfOk result (λ taken. option_map (λ said. option_map ancestry_of said) taken.0 ≡ given_revisions (view document)) }
+/// What a document says of its history by `_revisions`.
+#[derive(Drop)]
+pub(crate) enum GivenAncestry {
+    /// Nothing: it has no `_revisions`.
+    Absent,
+    /// Its `_revisions` is of another form.
+    Malformed,
+    /// It has this history.
+    Given(Ancestry),
+}
+
+/// Takes `_revisions` out of a document and reads what it says. Returns the rest of the document beside
+/// it, which says the same besides.
+pub(crate) fn take_given(alloc: Global, document: Json) -> Got<(GivenAncestry, Json)>
+    ensures given { IfOk result (λ taken. given_of taken.0 ≡ given_revisions (view document)) }
     ensures sent { IfOk result (λ taken. (id : List ℕ) → sent_in id (view taken.1) ≡ sent_in id (view document)) }
 {
-    let (given, rest) = take_member(document, "_revisions");
-    match given {
-        Some(value) => Ok((Some(read_revisions(alloc, value)?), rest)),
-        None => Ok((None, rest)),
+    let (value, rest) = take_member(document, "_revisions");
+    let given = read_given(alloc, value)?;
+    Ok((given, rest))
+}
+
+/// Reads what `_revisions` says, where it is given.
+fn read_given(alloc: Global, value: Option<Json>) -> Got<GivenAncestry>
+    ensures { IfOk result (λ given. given_of given ≡ option_map ancestry_given (option_map view value)) }
+{
+    let Some(value) = value else {
+        return Ok(GivenAncestry::Absent);
+    };
+    match read_revisions(alloc, value)? {
+        Some(ancestry) => Ok(GivenAncestry::Given(ancestry)),
+        None => Ok(GivenAncestry::Malformed),
     }
 }
 
@@ -55,16 +77,15 @@ fn take_member(value: Json, name: &str) -> (Option<Json>, Json)
 /// the revision alone. `None` where the document comes without one, or says different things of it.
 pub(crate) fn find_ancestry(
     alloc: Global,
-    given: Option<Option<Ancestry>>,
+    given: GivenAncestry,
     rev: Option<Rev>,
 ) -> Got<Option<Ancestry>>
-    ensures { IfOk result (λ ancestry. option_map ancestry_of ancestry
-        ≡ ancestry_by (option_map (λ said. option_map ancestry_of said) given) rev) }
+    ensures { IfOk result (λ ancestry. option_map ancestry_of ancestry ≡ ancestry_by (given_of given) rev) }
 {
     match given {
-        Some(Some(said)) => Ok(match_newest(said, rev)),
-        Some(None) => Ok(None),
-        None => make_alone(alloc, rev),
+        GivenAncestry::Absent => make_alone(alloc, rev),
+        GivenAncestry::Malformed => Ok(None),
+        GivenAncestry::Given(said) => Ok(match_newest(said, rev)),
     }
 }
 

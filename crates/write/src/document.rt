@@ -4,6 +4,7 @@ ghost use Rattle.std.specs.Prelude.{◌≡◌, IfOk, option_map, string_bytes};
 ghost use Rattle.couch_json.specs.View.{view, members_view};
 ghost use Rattle.write.specs.Document.{are_allowed, body_for, body_in, fits_id, id_in_bulk, id_in, is_body_for, is_document_member};
 ghost use Rattle.write.specs.Document.{is_special, mark_in, member_text, given_revision, sent_in, without_special, words_in};
+ghost use Rattle.write.specs.inner.Edits.{named_of};
 
 use couch_json::{Got, Json, NameMap, NoMemory};
 use policy::check_design;
@@ -22,6 +23,17 @@ pub(crate) struct ParsedDocument {
     pub(crate) deleted: bool,
     /// What is left of it without its special members.
     pub(crate) body: Body,
+}
+
+/// The revision that a document or an edit names.
+#[derive(Clone, Copy, Drop)]
+pub(crate) enum NamedRevision {
+    /// It names none.
+    Absent,
+    /// It names something other than a revision, or two revisions that differ.
+    Malformed,
+    /// It names this one.
+    Given(Rev),
 }
 
 /// Reads what a document with this id says; `None` where it is a bad one.
@@ -46,7 +58,11 @@ fn read_words(id: &DocId, document: &Json) -> Option<(Option<Rev>, bool)>
     if !fits_id(id, document.member("_id")) {
         return None;
     }
-    let rev = parse_revision(document.member("_rev"))?;
+    let rev = match parse_revision(document.member("_rev")) {
+        NamedRevision::Absent => None,
+        NamedRevision::Malformed => return None,
+        NamedRevision::Given(rev) => Some(rev),
+    };
     let deleted = read_mark(document.member("_deleted"))?;
     Some((rev, deleted))
 }
@@ -153,15 +169,20 @@ pub(crate) fn fits_id(id: &DocId, value: Option<&Json>) -> bool
     }
 }
 
-/// Parses the revision that `_rev` gives, if it is given; `None` where it gives none.
-fn parse_revision(value: Option<&Json>) -> Option<Option<Rev>>
-    ensures { result ≡ given_revision (option_map (λ v. view v.now) value.entry) }
+/// Parses the revision that `_rev` gives, if it is given.
+fn parse_revision(value: Option<&Json>) -> NamedRevision
+    ensures { named_of result ≡ given_revision (option_map (λ v. view v.now) value.entry) }
 {
     let Some(value) = value else {
-        return Some(None);
+        return NamedRevision::Absent;
     };
-    let rev = Rev::parse(value.text()?.as_bytes())?;
-    Some(Some(rev))
+    let Some(text) = value.text() else {
+        return NamedRevision::Malformed;
+    };
+    match Rev::parse(text.as_bytes()) {
+        Some(rev) => NamedRevision::Given(rev),
+        None => NamedRevision::Malformed,
+    }
 }
 
 /// Tells whether `_deleted` marks the document as deleted; `None` where it is neither true nor false.
