@@ -13,6 +13,7 @@ mod asking;
 mod bulk;
 mod differences;
 mod fault;
+mod given;
 pub mod laws;
 mod listings;
 mod members;

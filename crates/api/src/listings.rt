@@ -1,17 +1,18 @@
 //! What the queries of listings ask for (CouchDB manual, api/database/bulk-api and api/database/changes).
 
-ghost use Rattle.std.specs.Prelude.{◌≡◌, IfOk, Some, codes, option_map};
+ghost use Rattle.std.specs.Prelude.{◌≡◌, IfOk, codes};
 ghost use Rattle.std.specs.Char.{is_ascii_digit};
 ghost use Rattle.std.specs.List.{list_all};
 ghost use Rattle.couch_http.specs.Message.{message_of};
 ghost use Rattle.api.specs.RequestReading.{Says};
-ghost use Rattle.api.specs.Queried.{texts_of};
+ghost use Rattle.api.specs.Queried.{given_of, texts_of};
 ghost use Rattle.api.specs.Listings.{changes_asked, changes_query, count_in_text, is_count_text, key_in};
 ghost use Rattle.api.specs.Listings.{listing_names, listing_query, range_asked, range_from, style_in};
 ghost use Rattle.api.specs.Queries.{parameters_are_named, flag_in, given_at};
 ghost use Rattle.api.specs.Refusals.{there_or};
 
 use crate::fault::RequestFault;
+use crate::given::Given;
 use crate::parameters::{are_named, flag_at, parameters, sole_value};
 use crate::refusal::Refusal;
 use couch_http::Request;
@@ -37,13 +38,15 @@ fn read_range(alloc: Global, parameters: &[(String, String)]) -> Got<Option<IdRa
     if !are_listing_names(parameters) {
         return Ok(None);
     }
-    let Some(start) = key_at(alloc, parameters, "startkey")? else {
+    let start = key_at(alloc, parameters, "startkey")?;
+    if start.is_malformed() {
         return Ok(None);
-    };
-    let Some(end) = key_at(alloc, parameters, "endkey")? else {
+    }
+    let end = key_at(alloc, parameters, "endkey")?;
+    if end.is_malformed() {
         return Ok(None);
-    };
-    Ok(range_from(parameters, start, end))
+    }
+    Ok(range_from(parameters, start.value(), end.value()))
 }
 
 /// Tests whether all names are those of a listing's parameters.
@@ -69,17 +72,20 @@ pub(crate) fn range_from(
 ) -> Option<IdRange>
     ensures { result ≡ range_from (texts_of parameters.now) start end }
 {
-    let inclusive_end = flag_at(parameters, "inclusive_end")?;
-    let descending = flag_at(parameters, "descending")?;
-    let skip = count_at(parameters, "skip")?;
-    let limit = count_at(parameters, "limit")?;
+    let inclusive_end = flag_at(parameters, "inclusive_end").value_or(true)?;
+    let descending = flag_at(parameters, "descending").value_or(false)?;
+    let skip = count_at(parameters, "skip").value_or(0)?;
+    let limit = count_at(parameters, "limit");
+    if limit.is_malformed() {
+        return None;
+    }
     Some(IdRange {
         start,
         end,
-        inclusive_end: inclusive_end.unwrap_or(true),
-        descending: descending.unwrap_or(false),
-        skip: skip.unwrap_or(0),
-        limit,
+        inclusive_end,
+        descending,
+        skip,
+        limit: limit.value(),
         counted: false,
     })
 }
@@ -102,24 +108,28 @@ fn read_changes(parameters: &[(String, String)]) -> Option<SeqRange>
     if !are_named(parameters, &["since", "limit", "style"]) {
         return None;
     }
-    let since = count_at(parameters, "since")?;
-    let limit = count_at(parameters, "limit")?;
-    let style = style_at(parameters)?;
+    let since = count_at(parameters, "since").value_or(0)?;
+    let limit = count_at(parameters, "limit");
+    if limit.is_malformed() {
+        return None;
+    }
+    let all_leaves = style_at(parameters).value_or(false)?;
     Some(SeqRange {
-        since: since.unwrap_or(0),
-        limit,
-        all_leaves: style.unwrap_or(false),
+        since,
+        limit: limit.value(),
+        all_leaves,
         counted: false,
     })
 }
 
-/// Reads the number at a name, if there is one; `None` where the parameter is of another form.
-fn count_at(parameters: &[(String, String)], name: &str) -> Option<Option<u64>>
-    ensures { result ≡ given_at count_in_text name.now (texts_of parameters.now) }
+/// Reads the number at a name.
+fn count_at(parameters: &[(String, String)], name: &str) -> Given<u64>
+    ensures { given_of result ≡ given_at count_in_text name.now (texts_of parameters.now) }
 {
-    match sole_value(parameters, name)? {
-        Some(value) => Some(Some(count(value)?)),
-        None => Some(None),
+    match sole_value(parameters, name) {
+        Given::Absent => Given::Absent,
+        Given::Malformed => Given::Malformed,
+        Given::Value(value) => Given::read(count(value)),
     }
 }
 
@@ -153,41 +163,35 @@ fn are_digits(bytes: &[u8]) -> bool
     bytes.iter().all(|byte| byte.is_ascii_digit())
 }
 
-/// Reads whether all leaves are asked for, if `style` is there; `None` where it is of another form.
-fn style_at(parameters: &[(String, String)]) -> Option<Option<bool>>
-    ensures { result ≡ given_at style_in (codes "style") (texts_of parameters.now) }
+/// Reads from `style` whether all leaves are asked for.
+fn style_at(parameters: &[(String, String)]) -> Given<bool>
+    ensures { given_of result ≡ given_at style_in (codes "style") (texts_of parameters.now) }
 {
-    match sole_value(parameters, "style")? {
-        None => Some(None),
-        Some("all_docs") => Some(Some(true)),
-        Some("main_only") => Some(Some(false)),
-        Some(_) => None,
+    match sole_value(parameters, "style") {
+        Given::Absent => Given::Absent,
+        Given::Value("all_docs") => Given::Value(true),
+        Given::Value("main_only") => Given::Value(false),
+        Given::Value(_) | Given::Malformed => Given::Malformed,
     }
 }
 
-/// Reads the key at a name, if there is one; `None` where the parameter is of another form.
-fn key_at(
-    alloc: Global,
-    parameters: &[(String, String)],
-    name: &str,
-) -> Got<Option<Option<RangeKey>>>
-    ensures { IfOk result (λ key. key ≡ given_at key_in name.now (texts_of parameters.now)) }
+/// Reads the key at a name.
+fn key_at(alloc: Global, parameters: &[(String, String)], name: &str) -> Got<Given<RangeKey>>
+    ensures { IfOk result (λ key. given_of key ≡ given_at key_in name.now (texts_of parameters.now)) }
 {
-    let Some(value) = sole_value(parameters, name) else {
-        return Ok(None);
-    };
-    match value {
-        Some(value) => read_key(alloc, value),
-        None => Ok(Some(None)),
+    match sole_value(parameters, name) {
+        Given::Absent => Ok(Given::Absent),
+        Given::Malformed => Ok(Given::Malformed),
+        Given::Value(value) => Ok(Given::read(read_key(alloc, value)?)),
     }
 }
 
-/// Reads a key, which is a JSON string.
-fn read_key(alloc: Global, value: &str) -> Got<Option<Option<RangeKey>>>
-    ensures { IfOk result (λ key. key ≡ option_map (λ k. Some k) (key_in value.now)) }
+/// Reads a key, which is a JSON string; `None` where the text is something else.
+fn read_key(alloc: Global, value: &str) -> Got<Option<RangeKey>>
+    ensures { IfOk result (λ key. key ≡ key_in value.now) }
 {
     match read(alloc, value.as_bytes()) {
-        Ok(Json::Text(text)) => Ok(Some(Some(RangeKey::new(text)))),
+        Ok(Json::Text(text)) => Ok(Some(RangeKey::new(text))),
         Ok(_) => Ok(None),
         Err(JsonFault::Memory) => Err(NoMemory),
         Err(_) => Ok(None),

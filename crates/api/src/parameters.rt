@@ -1,10 +1,11 @@
 //! The parameters of a query (URL Standard, section 5.1).
 
 ghost use Rattle.std.specs.Prelude.{◌≡◌, IfOk, map, option_map, option_copied, string_bytes};
-ghost use Rattle.api.specs.Queried.{texts_of};
+ghost use Rattle.api.specs.Queried.{given_of, texts_of};
 ghost use Rattle.api.specs.Queries.{parameters_are_named, flag_in, given_at, parameter_of, parameters_in, sole_value};
 ghost use Rattle.form_urlencoded.specs.Form.{raw_pairs};
 
+use crate::given::Given;
 use couch_json::is_among;
 use std::alloc::{AllocError, Global};
 
@@ -44,35 +45,33 @@ pub(crate) fn are_named(parameters: &[(String, String)], names: &[&str]) -> bool
     true
 }
 
-/// Finds the value of the parameter of this name, or that there is none. `None` where the name stands
-/// twice.
-pub(crate) fn sole_value<'a>(
-    parameters: &'a [(String, String)],
-    name: &str,
-) -> Option<Option<&'a str>>
-    ensures { option_map option_copied result ≡ sole_value name.now (texts_of parameters.now) }
+/// Finds the value of the parameter of this name; malformed where the name occurs twice.
+pub(crate) fn sole_value<'a>(parameters: &'a [(String, String)], name: &str) -> Given<&'a str>
+    ensures { option_map option_copied (given_of result) ≡ sole_value name.now (texts_of parameters.now) }
 {
     let mut found = None;
     for (known, value) in parameters {
         if known.as_str() == name {
             if found.is_some() {
-                return None;
+                return Given::Malformed;
             }
             found = Some(value.as_str());
         }
     }
-    Some(found)
+    match found {
+        Some(value) => Given::Value(value),
+        None => Given::Absent,
+    }
 }
 
-/// Reads the flag at a name, if there is one; `None` where it is neither `true` nor `false`, or stands
-/// twice.
-pub(crate) fn flag_at(parameters: &[(String, String)], name: &str) -> Option<Option<bool>>
-    ensures { result ≡ given_at flag_in name.now (texts_of parameters.now) }
+/// Reads the flag at a name; malformed where it is neither `true` nor `false`, or occurs twice.
+pub(crate) fn flag_at(parameters: &[(String, String)], name: &str) -> Given<bool>
+    ensures { given_of result ≡ given_at flag_in name.now (texts_of parameters.now) }
 {
-    match sole_value(parameters, name)? {
-        None => Some(None),
-        Some("true") => Some(Some(true)),
-        Some("false") => Some(Some(false)),
-        Some(_) => None,
+    match sole_value(parameters, name) {
+        Given::Absent => Given::Absent,
+        Given::Value("true") => Given::Value(true),
+        Given::Value("false") => Given::Value(false),
+        Given::Value(_) | Given::Malformed => Given::Malformed,
     }
 }

@@ -3,14 +3,14 @@
 ghost use Rattle.std.specs.Prelude.{◌≡◌, IfOk, option_copied, option_map};
 ghost use Rattle.couch_http.specs.Message.{message_of};
 ghost use Rattle.couch_json.specs.View.{items_view, view};
-ghost use Rattle.tree.specs.Revision.{revision_read};
 ghost use Rattle.api.specs.RequestReading.{Says};
-ghost use Rattle.api.specs.Queried.{choice_of, query_of, texts_of};
+ghost use Rattle.api.specs.Queried.{choice_of, given_of, query_of, texts_of};
 ghost use Rattle.api.specs.Queries.{requested_revisions, asked_of_document, document_query, requested_open_revisions, document_query_by, revision_asked};
-ghost use Rattle.api.specs.Queries.{if_given, revision_in, revision_query, revisions, revisions_in, revisions_listed};
+ghost use Rattle.api.specs.Queries.{revision_in, revision_query, revisions, revisions_in, revisions_listed};
 ghost use Rattle.api.specs.Refusals.{there_or};
 
 use crate::fault::RequestFault;
+use crate::given::Given;
 use crate::parameters::{are_named, flag_at, parameters, sole_value};
 use crate::refusal::Refusal;
 use couch_http::Request;
@@ -65,16 +65,19 @@ fn asked_of_document(alloc: Global, parameters: &[(String, String)]) -> Got<Opti
     if !are_named(parameters, &["rev", "revs", "open_revs"]) {
         return Ok(None);
     }
-    let Some(rev) = sole_value(parameters, "rev") else {
+    let rev = sole_value(parameters, "rev");
+    if rev.is_malformed() {
         return Ok(None);
-    };
-    let Some(open_revs) = sole_value(parameters, "open_revs") else {
+    }
+    let open_revs = sole_value(parameters, "open_revs");
+    if open_revs.is_malformed() {
         return Ok(None);
-    };
-    let Some(revs) = flag_at(parameters, "revs") else {
+    }
+    let revs = flag_at(parameters, "revs");
+    if revs.is_malformed() {
         return Ok(None);
-    };
-    query_by(alloc, rev, open_revs, revs)
+    }
+    query_by(alloc, rev.value(), open_revs.value(), revs.value())
 }
 
 /// Reads what the three parameters ask for together.
@@ -172,28 +175,22 @@ pub fn revision_query(alloc: Global, request: &Request) -> Result<Option<Rev>, R
 {
     let parameters = parameters(alloc, &request.query)?;
     match revision_asked(&parameters) {
-        Some(rev) => Ok(rev),
-        None => Err(RequestFault::Refused(Refusal::Query)),
+        Given::Absent => Ok(None),
+        Given::Malformed => Err(RequestFault::Refused(Refusal::Query)),
+        Given::Value(rev) => Ok(Some(rev)),
     }
 }
 
-/// Reads the revision that the parameters name, if any.
-fn revision_asked(parameters: &[(String, String)]) -> Option<Option<Rev>>
-    ensures { result ≡ revision_asked (texts_of parameters.now) }
+/// Reads the revision that the parameters name; malformed where there is another parameter too.
+fn revision_asked(parameters: &[(String, String)]) -> Given<Rev>
+    ensures { given_of result ≡ revision_asked (texts_of parameters.now) }
 {
     if !are_named(parameters, &["rev"]) {
-        return None;
+        return Given::Malformed;
     }
-    revision_by(sole_value(parameters, "rev")?)
-}
-
-/// Reads the revision that a parameter spells, if there is one.
-fn revision_by(value: Option<&str>) -> Option<Option<Rev>>
-    ensures { result ≡ if_given revision_read (option_copied value.entry) }
-{
-    let Some(value) = value else {
-        return Some(None);
-    };
-    let rev = Rev::parse(value.as_bytes())?;
-    Some(Some(rev))
+    match sole_value(parameters, "rev") {
+        Given::Absent => Given::Absent,
+        Given::Malformed => Given::Malformed,
+        Given::Value(value) => Given::read(Rev::parse(value.as_bytes())),
+    }
 }

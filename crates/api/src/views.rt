@@ -1,14 +1,15 @@
 //! What the query of a view asks for (CouchDB manual, api/ddoc/views).
 
-ghost use Rattle.std.specs.Prelude.{◌≡◌, IfOk, Some, option_map};
+ghost use Rattle.std.specs.Prelude.{◌≡◌, IfOk};
 ghost use Rattle.couch_http.specs.Message.{message_of};
 ghost use Rattle.api.specs.RequestReading.{Says};
-ghost use Rattle.api.specs.Queried.{texts_of};
+ghost use Rattle.api.specs.Queried.{given_of, texts_of};
 ghost use Rattle.api.specs.Queries.{parameters_are_named, given_at};
 ghost use Rattle.api.specs.Refusals.{there_or};
 ghost use Rattle.api.specs.Views.{cut_at, end_side, json_in_text, keys_asked, keys_between, view_names, view_query};
 
 use crate::fault::RequestFault;
+use crate::given::Given;
 use crate::listings::range_from;
 use crate::parameters::{are_named, parameters, sole_value};
 use crate::refusal::Refusal;
@@ -36,14 +37,16 @@ fn read_keys(alloc: Global, parameters: &[(String, String)]) -> Got<Option<KeyRa
     if !are_view_names(parameters) {
         return Ok(None);
     }
-    let Some(start) = value_at(alloc, parameters, "startkey")? else {
+    let start = value_at(alloc, parameters, "startkey")?;
+    if start.is_malformed() {
         return Ok(None);
-    };
-    let Some(end) = value_at(alloc, parameters, "endkey")? else {
+    }
+    let end = value_at(alloc, parameters, "endkey")?;
+    if end.is_malformed() {
         return Ok(None);
-    };
+    }
     match range_from(parameters, None, None) {
-        Some(range) => Ok(Some(keys_between(start, end, &range))),
+        Some(range) => Ok(Some(keys_between(start.value(), end.value(), &range))),
         None => Ok(None),
     }
 }
@@ -104,29 +107,23 @@ fn cut_at(side: CutSide, key: Option<IndexKey>) -> Option<KeyCut>
     }
 }
 
-/// Reads the key at a name, if there is one; `None` where the parameter is of another form.
-fn value_at(
-    alloc: Global,
-    parameters: &[(String, String)],
-    name: &str,
-) -> Got<Option<Option<IndexKey>>>
-    ensures { IfOk result (λ key. key ≡ given_at json_in_text name.now (texts_of parameters.now)) }
+/// Reads the key at a name.
+fn value_at(alloc: Global, parameters: &[(String, String)], name: &str) -> Got<Given<IndexKey>>
+    ensures { IfOk result (λ key. given_of key ≡ given_at json_in_text name.now (texts_of parameters.now)) }
 {
-    let Some(value) = sole_value(parameters, name) else {
-        return Ok(None);
-    };
-    match value {
-        Some(value) => read_value(alloc, value),
-        None => Ok(Some(None)),
+    match sole_value(parameters, name) {
+        Given::Absent => Ok(Given::Absent),
+        Given::Malformed => Ok(Given::Malformed),
+        Given::Value(value) => Ok(Given::read(read_value(alloc, value)?)),
     }
 }
 
-/// Reads a key, which is a JSON value.
-fn read_value(alloc: Global, value: &str) -> Got<Option<Option<IndexKey>>>
-    ensures { IfOk result (λ key. key ≡ option_map (λ k. Some k) (json_in_text value.now)) }
+/// Reads a key, which is a JSON value; `None` where the text is something else.
+fn read_value(alloc: Global, value: &str) -> Got<Option<IndexKey>>
+    ensures { IfOk result (λ key. key ≡ json_in_text value.now) }
 {
     match read(alloc, value.as_bytes()) {
-        Ok(value) => Ok(Some(Some(IndexKey::new(value)))),
+        Ok(value) => Ok(Some(IndexKey::new(value))),
         Err(JsonFault::Memory) => Err(NoMemory),
         Err(_) => Ok(None),
     }
