@@ -8,7 +8,7 @@ use Rattle.auth.specs.Callers as auth
 use Rattle.couch_http.specs.Message.{Message}
 use Rattle.couch_json.specs.Parts.{has_only}
 use Rattle.couch_json.specs.Reading.{reading}
-use Rattle.couch_json.specs.Value.{Value, array, object, Items, Members, no_members, member, member_at, put}
+use Rattle.couch_json.specs.Value.{Value, object, Members, no_members, member, member_at, put}
 use Rattle.couch_json.specs.declared.fault.JsonFault.{JsonFault}
 use Rattle.couch_json.proofs.ReadingBack.{what_was_read}
 use Rattle.find.specs.Indexes.{design_in, index_in, index_with}
@@ -25,7 +25,7 @@ use Rattle.api.specs.Listings.{requested_differences}
 use Rattle.api.specs.Refusals.{and_then, there_or}
 use Rattle.api.specs.declared.method.RequestMethod.TheVariants.{Post}
 use Rattle.api.specs.declared.page.Page.{Page}
-use Rattle.api.specs.declared.page.Page.TheVariants.{Welcome, AllDatabases, Database as DatabasePage, Security, BulkDocuments, AllDocuments, Changes, Differences, Find, Index, View, Document, LocalDocument}
+use Rattle.api.specs.declared.page.Page.TheVariants.{BulkDocuments, Differences, Find, Index}
 use Rattle.api.specs.declared.refusal.Refusal.{Refusal}
 use Rattle.api.specs.declared.refusal.Refusal.TheVariants.{Body, Method}
 use Rattle.node.specs.Answer.{Outcome, Task, reply, task_of, task_outcome}
@@ -38,64 +38,66 @@ use Rattle.passes.proofs.Judged.{WasRead, judged, never, read_never, read_out, t
 use Rattle.passes.proofs.Spellings.{leads_into}
 use Rattle.passes.specs.Spelled.{RevisionsAreCompared}
 
--- ---- an object of lists
+-- ---- an object of lists of texts
 
-abbrev AreLists : Members → Type 0
-AreLists no_members = ⊤
-AreLists (member name v ms) = ((vs : Items) × (v ≡ array vs)) × AreLists ms
+-- each member is a list of texts
+abbrev pub AreTexts : Members → Type 0
+AreTexts no_members = ⊤
+AreTexts (member name v ms) = ((ts : List (List ℕ)) × (v ≡ texts_value ts)) × AreTexts ms
 
--- there is no member of this name, or it is a list
-abbrev IsList : Option Value → Type 0
-IsList None = ⊤
-IsList (Some v) = (vs : Items) × (v ≡ array vs)
+-- there is no member of this name, or it is a list of texts
+abbrev pub IfTexts : Option Value → Type 0
+IfTexts None = ⊤
+IfTexts (Some v) = (ts : List (List ℕ)) × (v ≡ texts_value ts)
 
-lists_put : (name : List ℕ) (vs : Items) (ms : Members) → AreLists ms → AreLists (put name (array vs) ms)
-lists_put name vs no_members h = ((vs, refl), tt)
-lists_put name vs (member other w ms) h = by (slice_cmp nat_cmp name other) (lists_put name vs ms h.1)
+texts_put : (name : List ℕ) (ts : List (List ℕ)) (ms : Members) → AreTexts ms → AreTexts (put name (texts_value ts) ms)
+texts_put name ts no_members h = ((ts, refl), tt)
+texts_put name ts (member other w ms) h = by (slice_cmp nat_cmp name other) (texts_put name ts ms h.1)
   where
-    by : (o : Ordering) → AreLists (put name (array vs) ms) → AreLists (match_ordering o (member name (array vs) (member other w ms)) (member other (array vs) ms) (member other w (put name (array vs) ms)))
-    by Less rest = ((vs, refl), h)
-    by Equal rest = ((vs, refl), h.1)
+    by : (o : Ordering) → AreTexts (put name (texts_value ts) ms)
+        → AreTexts (match_ordering o (member name (texts_value ts) (member other w ms)) (member other (texts_value ts) ms) (member other w (put name (texts_value ts) ms)))
+    by Less rest = ((ts, refl), h)
+    by Equal rest = ((ts, refl), h.1)
     by Greater rest = (h.0, rest)
 
-lists_all : (rs : List Revisions) (found : Members) → AreLists found → AreLists (revisions_put rs found)
-lists_all [] found h = h
-lists_all (r ∷ rs) found h = lists_all rs (put r.id (texts_value r.revisions) found) (lists_put r.id _ found h)
+pub texts_all : (rs : List Revisions) (found : Members) → AreTexts found → AreTexts (revisions_put rs found)
+texts_all [] found h = h
+texts_all (r ∷ rs) found h = texts_all rs (put r.id (texts_value r.revisions) found) (texts_put r.id r.revisions found h)
 
-list_at : (name : List ℕ) (ms : Members) → AreLists ms → IsList (member_at name ms)
-list_at name no_members h = tt
-list_at name (member other w ms) h = by (slice_cmp nat_cmp name other) (list_at name ms h.1)
+pub texts_at : (name : List ℕ) (ms : Members) → AreTexts ms → IfTexts (member_at name ms)
+texts_at name no_members h = tt
+texts_at name (member other w ms) h = by (slice_cmp nat_cmp name other) (texts_at name ms h.1)
   where
-    by : (o : Ordering) → IsList (member_at name ms) → IsList (match_ordering o (member_at name ms) (Some w) (member_at name ms))
+    by : (o : Ordering) → IfTexts (member_at name ms) → IfTexts (match_ordering o (member_at name ms) (Some w) (member_at name ms))
     by Less rest = rest
     by Equal rest = h.0
     by Greater rest = rest
 
--- what refuses each list refuses the member
-no_member : {A : Type 0} (read : Value → Option A) (o : Option Value) → ((vs : Items) → read (array vs) ≡ None) → IsList o → option_and_then read o ≡ None
+-- what refuses each list of texts refuses the member
+no_member : {A : Type 0} (read : Value → Option A) (o : Option Value) → ((ts : List (List ℕ)) → read (texts_value ts) ≡ None) → IfTexts o → option_and_then read o ≡ None
 no_member read None none h = refl
-no_member {A} read (Some v) none (vs, is) = ap read is ∙ none vs
+no_member {A} read (Some v) none (ts, is) = ap read is ∙ none ts
 
 either_none : {A : Type 0} (b : Bool) (o : Option A) → o ≡ None → cond b o None ≡ None
 either_none true o e = e
 either_none false o e = refl
 
-no_selector : (vs : Items) → selector_in (array vs) ≡ None
-no_selector vs = refl
+no_selector : (ts : List (List ℕ)) → selector_in (texts_value ts) ≡ None
+no_selector ts = refl
 
-no_query : (ms : Members) → AreLists ms → query_in (object ms) ≡ None
+no_query : (ms : Members) → AreTexts ms → query_in (object ms) ≡ None
 no_query ms h =
     let v = object ms in
     either_none (has_only query_names v) _
     (ap (λ (o : Option Value). option_and_then (λ selector. option_and_then (λ entries. query_with v selector entries) (sort_entries (member_at (codes "sort") ms))) o)
-    (no_member selector_in (member_at (codes "selector") ms) no_selector (list_at (codes "selector") ms h)))
+    (no_member selector_in (member_at (codes "selector") ms) no_selector (texts_at (codes "selector") ms h)))
 
-no_index : (ms : Members) → AreLists ms → index_in (object ms) ≡ None
+pub no_index : (ms : Members) → AreTexts ms → index_in (object ms) ≡ None
 no_index ms h =
     let v = object ms in
     either_none _ _
     (ap (λ (o : Option (List ℕ)). option_and_then (λ design. index_with v design) o)
-    (no_member design_in (member_at (codes "ddoc") ms) (λ vs. refl) (list_at (codes "ddoc") ms h)))
+    (no_member design_in (member_at (codes "ddoc") ms) (λ ts. refl) (texts_at (codes "ddoc") ms h)))
 
 -- ---- the call
 
@@ -120,28 +122,20 @@ status_of_bulk caller m name db d e =
 abbrev Compared : Contents → Message → Outcome → Type 0
 Compared a m o = WasRead a m (λ name. difference_list m) o
 
-at_page : (page : Page) (caller : auth.Identity) (a : Contents) (m : Message) (ms : Members) (task : Task) (o : Outcome) → HasBody m ms → AreLists ms → o.status ≡ 200
+at_page : (page : Page) (caller : auth.Identity) (a : Contents) (m : Message) (ms : Members) (task : Task) (o : Outcome) → HasBody m ms → AreTexts ms → o.status ≡ 200
     → task_of page (Some Post) caller m ≡ Ok task → task_outcome caller a task ≡ Ok o → Compared a m o
-at_page Welcome caller a m ms task o body lists ok e f = absurd (never Method task e)
-at_page AllDatabases caller a m ms task o body lists ok e f = absurd (never Method task e)
-at_page DatabasePage caller a m ms task o body lists ok e f = absurd (never Method task e)
-at_page Security caller a m ms task o body lists ok e f = absurd (never Method task e)
-at_page BulkDocuments caller a m ms task o body lists ok e f =
+at_page BulkDocuments caller a m ms task o body texts ok e f =
     let w = work_out caller a m WriteDocument (λ name. documents_written caller m name) task o e f in
     let created : o.status ≡ 201 = ap (λ (x : Outcome). x.status) w.is ∙ status_of_bulk caller m w.name w.db w.done w.was in
     absurd (omega (arith, ok, created))
-at_page AllDocuments caller a m ms task o body lists ok e f = absurd (never Method task e)
-at_page Changes caller a m ms task o body lists ok e f = absurd (never Method task e)
-at_page Differences caller a m ms task o body lists ok e f = read_out caller a m (λ name. difference_list m) task o e f
-at_page Find caller a m ms task o body lists ok e f =
+at_page Differences caller a m ms task o body texts ok e f = read_out caller a m (λ name. difference_list m) task o e f
+at_page Find caller a m ms task o body texts ok e f =
     absurd (read_never caller a m (λ name. document_finds m) task o
-    (λ name db v k. body_never m ms query_in (λ value query. Ok (documents_reply (found_documents query db))) v body (no_query ms lists) k) e f)
-at_page Index caller a m ms task o body lists ok e f =
+    (λ name db v k. body_never m ms query_in (λ value query. Ok (documents_reply (found_documents query db))) v body (no_query ms texts) k) e f)
+at_page Index caller a m ms task o body texts ok e f =
     let w = work_out caller a m WriteDocument (λ name. index_written caller m name) task o e f in
-    absurd (body_never m ms index_in (λ value asked. index_asked_in caller w.name w.db asked) w.done body (no_index ms lists) w.was)
-at_page View caller a m ms task o body lists ok e f = absurd (never Method task e)
-at_page Document caller a m ms task o body lists ok e f = absurd (never Method task e)
-at_page LocalDocument caller a m ms task o body lists ok e f = absurd (never Method task e)
+    absurd (body_never m ms index_in (λ value asked. index_asked_in caller w.name w.db asked) w.done body (no_index ms texts) w.was)
+at_page page caller a m ms task o body texts ok e f = absurd (never Method task e)
 
 pub value_was : (r : Result Value JsonFault) (w : Value) → value_or_refusal r ≡ Ok w → r ≡ Ok w
 value_was (Ok v) w e = ap Ok (same v w e)
@@ -153,7 +147,7 @@ compared_by c a k side leaves small lawful ok =
     let ms = revisions_put leaves no_members in
     let body : HasBody m ms = λ w e. sym (what_was_read (object ms) w lawful (value_was (reading m.body) w e)) in
     let j = judged c a m (omega (arith, ok)) in
-    let w = at_page j.page j.caller a m ms j.task j.outcome body (lists_all leaves no_members tt) (ap (λ (x : Outcome). x.status) (sym j.told) ∙ ok) j.asked j.came in
+    let w = at_page j.page j.caller a m ms j.task j.outcome body (texts_all leaves no_members tt) (ap (λ (x : Outcome). x.status) (sym j.told) ∙ ok) j.asked j.came in
     let into : database_of_side k side ≡ w.name = leads_into (database_of_side k side) (codes "_revs_diff") w.name small w.own in
     let p = went (plain m) (λ _. and_then (json_body m) (λ value. and_then (there_or Body (requested_differences value)) (λ asked. Ok (revision_differences asked w.db)))) w.value w.was in
     let l = went (json_body m) (λ value. and_then (there_or Body (requested_differences value)) (λ asked. Ok (revision_differences asked w.db))) w.value p.then in

@@ -14,7 +14,7 @@ use Rattle.api.specs.Refusals.{and_then, status_of, there_or, true_or}
 use Rattle.api.specs.Routing.{page_of}
 use Rattle.api.specs.declared.page.Page.{Page}
 use Rattle.api.specs.declared.refusal.Refusal.{Refusal}
-use Rattle.api.specs.declared.refusal.Refusal.TheVariants.{Unauthorized, Forbidden, Path, Method, DatabaseName, NoDatabase, Exists, Id, Query, Syntax, Body, BadDocument, BadHistory, Conflict, Generation, Missing, Deleted}
+use Rattle.api.specs.declared.refusal.Refusal.TheVariants.{Unauthorized, Path, DatabaseName, Query}
 use Rattle.node.specs.Answer.{Outcome, Task, answer, database_name_of, entry, judgement, outcome_in_database, page_outcome, reply, settlement, task_of, task_outcome, work_task, worked}
 use Rattle.node.specs.Work.{Done, Work, read_work, value_done}
 use Rattle.node.proofs.Tasks.{named, same, there, well, went}
@@ -23,22 +23,7 @@ use Rattle.node.proofs.Tasks.{named, same, there, well, went}
 
 pub refused_high : (r : Refusal) → 400 ≤ status_of r
 refused_high (Unauthorized rule) = omega arith
-refused_high (Forbidden rule) = omega arith
-refused_high Path = omega arith
-refused_high Method = omega arith
-refused_high DatabaseName = omega arith
-refused_high NoDatabase = omega arith
-refused_high Exists = omega arith
-refused_high Id = omega arith
-refused_high Query = omega arith
-refused_high Syntax = omega arith
-refused_high Body = omega arith
-refused_high BadDocument = omega arith
-refused_high BadHistory = omega arith
-refused_high Conflict = omega arith
-refused_high Generation = omega arith
-refused_high Missing = omega arith
-refused_high Deleted = omega arith
+refused_high refusal = omega arith
 
 abbrev pub ill : {A : Type 0} → Refusal → Result A Refusal
 ill r = Err r

@@ -1,5 +1,5 @@
 -- A call for the changes that is answered with 200 lists them.
-use Rattle.std.proofs.Common.{◌≡◌, ◌≤◌, ◌<◌, ◌^◌, ℕ, true, false, Option, Some, None, option_map, option_and_then, Ok, codes, sym, ap, ◌∙◌, arith}
+use Rattle.std.proofs.Common.{◌≡◌, ◌≤◌, ◌<◌, ◌^◌, ⊎_elim, ℕ, true, false, Option, Some, None, option_map, option_and_then, Ok, codes, sym, ap, ◌∙◌, arith}
 use Rattle.std.specs.Prelude.{IfSome, unwrap_or}
 use Rattle.couch_json.specs.Range.{greatest_count}
 use Rattle.std.specs.FinMap.{get}
@@ -10,36 +10,30 @@ use Rattle.store.specs.Contents.{Contents}
 use Rattle.store.specs.Database.{Database}
 use Rattle.store.specs.declared.listing.SeqRange.{SeqRange}
 use Rattle.read.specs.Changes.{changes_in}
-use Rattle.api.specs.Asking.{is_nothing, lacks_parameters, plain}
+use Rattle.api.specs.Asking.{is_nothing}
 use Rattle.api.specs.Listings as api
-use Rattle.api.specs.Listings.{changes_asked, listing_query, range_asked}
-use Rattle.api.specs.Paths.{document_id_in, index_name_in_path, local_id_in}
+use Rattle.api.specs.Listings.{changes_asked, range_asked}
+use Rattle.api.specs.Paths.{document_id_in}
 use Rattle.api.specs.Queries.{asked_of_document, document_query}
 use Rattle.api.specs.Refusals.{and_then, there_or}
-use Rattle.api.specs.Views.{keys_asked, view_query}
+use Rattle.api.specs.Views.{keys_asked}
 use Rattle.api.specs.declared.method.RequestMethod.TheVariants.{Get}
 use Rattle.api.specs.declared.page.Page.{Page}
-use Rattle.api.specs.declared.page.Page.TheVariants.{Welcome, AllDatabases, Database as DatabasePage, Security, BulkDocuments, AllDocuments, Changes, Differences, Find, Index, View, Document, LocalDocument}
-use Rattle.api.specs.declared.refusal.Refusal.TheVariants.{Id, Method, Query}
-use Rattle.node.specs.Answer.{Outcome, Task, administration, listed, reply, task_of, task_outcome, told, welcome}
-use Rattle.node.specs.Works.{change_list, database_read, document_list, document_read, refusal_of_read, local_read, read_by, security_read, view_read}
+use Rattle.api.specs.declared.refusal.Refusal.TheVariants.{Id, Query}
+use Rattle.node.specs.Answer.{Outcome, Task, reply, task_of, task_outcome}
+use Rattle.node.specs.Works.{change_list, document_read, refusal_of_read, read_by}
 use Rattle.node.proofs.Tasks.{named as was_named, same, went}
-use Rattle.read.specs.Information.{information}
-use Rattle.read.specs.Listing.{document_listing}
-use Rattle.read.specs.Local.{local_document}
-use Rattle.read.specs.Views.{view_listing}
 use Rattle.repl.specs.Calls.{changes_call_query, list_changes, request_of}
 use Rattle.repl.specs.Configuration.{PassConfiguration, database_of_side}
 use Rattle.repl.specs.declared.side.Side.{Side}
-use Rattle.passes.proofs.Judged.{WasRead, judged, never, next_never, plain_never, read_never, read_out, there_never}
+use Rattle.passes.proofs.GetReads.{HasOwnParameters, changes_or_document}
+use Rattle.passes.proofs.Judged.{WasRead, judged, next_never, there_never}
 use Rattle.passes.proofs.Spellings.{changes-pairs, changes-parameters, count-decimal, leads_into}
 use Rattle.passes.specs.Spelled.{ChangesAreListed, changes_after}
 
 -- what is asked for is a list of changes on one page alone
 record AsksChanges (m : Message) (range : SeqRange) : Type 0 where
-  some : lacks_parameters m.query ≡ false
-  listing : listing_query m.query ≡ None
-  view : view_query m.query ≡ None
+  own : HasOwnParameters m
   document : document_query m.query ≡ None
   changes : api.changes_query m.query ≡ Some range
 
@@ -48,44 +42,13 @@ no_document m range asks db v e =
     next_never (there_or Id (document_id_in m.path)) (λ id. and_then (there_or Query (document_query m.query)) (λ query. refusal_of_read (read_by id query.revs query.asked db))) v
     (λ id k. there_never Query (document_query m.query) (λ query. refusal_of_read (read_by id query.revs query.asked db)) v asks.document k) e
 
-no_view : (m : Message) (range : SeqRange) → AsksChanges m range → (db : Database) (v : Value) → view_read m db ≡ Ok v → ⊥
-no_view m range asks db v e =
-    next_never (there_or Id (document_id_in m.path))
-    (λ design. and_then (there_or Id (index_name_in_path m.path)) (λ index. and_then (there_or Query (view_query m.query)) (λ keys. refusal_of_read (view_listing keys design index db)))) v
-    (λ design k. next_never (there_or Id (index_name_in_path m.path)) (λ index. and_then (there_or Query (view_query m.query)) (λ keys. refusal_of_read (view_listing keys design index db))) v
-    (λ index l. there_never Query (view_query m.query) (λ keys. refusal_of_read (view_listing keys design index db)) v asks.view l) k) e
-
-no_local : (m : Message) (range : SeqRange) → AsksChanges m range → (db : Database) (v : Value) → local_read m db ≡ Ok v → ⊥
-no_local m range asks db v e =
-    next_never (there_or Id (local_id_in m.path)) (λ id. and_then (plain m) (λ _. refusal_of_read (local_document id db))) v
-    (λ id k. plain_never m (λ _. refusal_of_read (local_document id db)) v asks.some k) e
-
 abbrev Listed : Contents → Message → Outcome → Type 0
 Listed a m o = WasRead a m (λ name. change_list m) o
 
 at_page : (page : Page) (caller : auth.Identity) (a : Contents) (m : Message) (range : SeqRange) (task : Task) (o : Outcome) → AsksChanges m range
     → task_of page (Some Get) caller m ≡ Ok task → task_outcome caller a task ≡ Ok o → Listed a m o
-at_page Welcome caller a m range task o asks e f = absurd (plain_never m (λ _. Ok (told welcome)) task asks.some e)
-at_page AllDatabases caller a m range task o asks e f =
-    absurd (next_never (administration caller) (λ _. and_then (plain m) (λ _. Ok listed)) task (λ u k. plain_never m (λ _. Ok listed) task asks.some k) e)
-at_page DatabasePage caller a m range task o asks e f =
-    absurd (read_never caller a m (λ name. database_read m name) task o (λ name db v k. plain_never m (λ _. Ok (information name db)) v asks.some k) e f)
-at_page Security caller a m range task o asks e f =
-    absurd (read_never caller a m (λ name. security_read m) task o (λ name db v k. plain_never m (λ _. Ok db.security) v asks.some k) e f)
-at_page BulkDocuments caller a m range task o asks e f = absurd (never Method task e)
-at_page AllDocuments caller a m range task o asks e f =
-    absurd (read_never caller a m (λ name. document_list m) task o
-    (λ name db v k. there_never Query (listing_query m.query) (λ r. Ok (document_listing r db)) v asks.listing k) e f)
-at_page Changes caller a m range task o asks e f = read_out caller a m (λ name. change_list m) task o e f
-at_page Differences caller a m range task o asks e f = absurd (never Method task e)
-at_page Find caller a m range task o asks e f = absurd (never Method task e)
-at_page Index caller a m range task o asks e f = absurd (never Method task e)
-at_page View caller a m range task o asks e f =
-    absurd (read_never caller a m (λ name. view_read m) task o (λ name db v k. no_view m range asks db v k) e f)
-at_page Document caller a m range task o asks e f =
-    absurd (read_never caller a m (λ name. document_read m) task o (λ name db v k. no_document m range asks db v k) e f)
-at_page LocalDocument caller a m range task o asks e f =
-    absurd (read_never caller a m (λ name. local_read m) task o (λ name db v k. no_local m range asks db v k) e f)
+at_page page caller a m range task o asks e f =
+    ⊎_elim (λ w. w) (λ w. absurd (no_document m range asks w.db w.value w.was)) (changes_or_document page caller a m task o asks.own e f)
 
 abbrev given : ℕ → Option ℕ
 given n = Some n
@@ -111,9 +74,7 @@ asks : (k : PassConfiguration) (side : Side) (since : ℕ) (most : Option ℕ) �
 asks k side since most few bound =
     let parameters = changes-parameters since most (omega arith) (below most bound) in
     record {
-      some = ap is_nothing (changes-pairs since most (omega arith) (below most bound));
-      listing = ap range_asked parameters;
-      view = ap keys_asked parameters;
+      own = record { some = ap is_nothing (changes-pairs since most (omega arith) (below most bound)); listing = ap range_asked parameters; view = ap keys_asked parameters };
       document = ap asked_of_document parameters;
       changes = query_says since most few bound;
     }

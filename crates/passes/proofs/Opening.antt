@@ -1,5 +1,5 @@
 -- A call to open revisions that is answered with 200 opens them.
-use Rattle.std.proofs.Common.{◌≡◌, ℕ, ◌==◌, List, [], ◌∷◌, ◌++◌, map, drop, Bool, true, false, cond, not, Option, Some, None, option_map, option_and_then, Result, Ok, Err, codes, IsUtf8, slice_get, nat_eq, nat_lt, ltb-true, ◌<◌, eqb-true, refl, sym, ap, ◌∙◌, arith}
+use Rattle.std.proofs.Common.{◌≡◌, ⊎_elim, ℕ, ◌==◌, List, [], ◌∷◌, ◌++◌, map, drop, Bool, true, false, cond, not, Option, Some, None, option_map, option_and_then, Result, Ok, Err, codes, IsUtf8, slice_get, nat_eq, nat_lt, ltb-true, ◌<◌, eqb-true, refl, sym, ap, ◌∙◌, arith}
 use Rattle.std.specs.List.{list_all, starts_with}
 use Rattle.std.specs.Cmp.{first_so, second_so}
 use Rattle.std.specs.Str.{is_utf8}
@@ -30,24 +30,19 @@ use Rattle.tree.specs.DocumentId.{is_document_id, is_local_id}
 use Rattle.tree.specs.Revision.{Revision}
 use Rattle.store.specs.Contents.{Contents}
 use Rattle.store.specs.Database.{Database, history_at}
-use Rattle.read.specs.Listing.{document_listing}
 use Rattle.read.specs.Changes.{changes_in}
-use Rattle.read.specs.Information.{information}
-use Rattle.read.specs.Local.{local_document}
-use Rattle.read.specs.Views.{view_listing}
 use Rattle.read.specs.OpenRevisions.{open_revisions}
-use Rattle.api.specs.Asking.{is_nothing, lacks_parameters, plain}
-use Rattle.api.specs.Listings.{changes_asked, changes_query, listing_query, range_asked}
-use Rattle.api.specs.Paths.{decoded_text, document_id_in, id_text_by, id_text_in, index_name_in_path, joined_by_slash, local_id_in, named_id_in, part_at, parts_of, slash, text_if}
+use Rattle.api.specs.Asking.{is_nothing}
+use Rattle.api.specs.Listings.{changes_asked, changes_query, range_asked}
+use Rattle.api.specs.Paths.{decoded_text, document_id_in, id_text_by, id_text_in, joined_by_slash, named_id_in, part_at, parts_of, slash, text_if}
 use Rattle.api.specs.Queries.{RequestedRevisions, DocumentQuery, asked_of_document, document_query, parameter_of, parameters_in, revisions, revisions_listed}
 use Rattle.api.specs.Refusals.{and_then, there_or}
-use Rattle.api.specs.Views.{keys_asked, view_query}
+use Rattle.api.specs.Views.{keys_asked}
 use Rattle.api.specs.declared.method.RequestMethod.TheVariants.{Get}
 use Rattle.api.specs.declared.page.Page.{Page}
-use Rattle.api.specs.declared.page.Page.TheVariants.{Welcome, AllDatabases, Database as DatabasePage, Security, BulkDocuments, AllDocuments, Changes, Differences, Find, Index, View, Document, LocalDocument}
-use Rattle.api.specs.declared.refusal.Refusal.TheVariants.{Id, Method, Query}
-use Rattle.node.specs.Answer.{Outcome, Task, administration, listed, reply, task_of, task_outcome, told, welcome}
-use Rattle.node.specs.Works.{change_list, database_read, document_list, document_read, refusal_of_read, local_read, read_by, security_read, view_read}
+use Rattle.api.specs.declared.refusal.Refusal.TheVariants.{Id, Query}
+use Rattle.node.specs.Answer.{Outcome, Task, reply, task_of, task_outcome}
+use Rattle.node.specs.Works.{change_list, document_read, refusal_of_read, read_by}
 use Rattle.node.proofs.Tasks.{named as was_named, same, went}
 use Rattle.repl.specs.Calls.{Revisions, page_path, request_of, revisions_query, texts_value}
 use Rattle.repl.specs.Calls as call
@@ -55,7 +50,8 @@ use Rattle.repl.specs.Configuration.{PassConfiguration, database_of_side}
 use Rattle.repl.specs.Spelling.{document_segments, segment}
 use Rattle.repl.specs.declared.side.Side.{Side}
 use Rattle.repl.proofs.Segments.{percent_decode-segment}
-use Rattle.passes.proofs.Judged.{WasRead, judged, never, next_never, plain_never, read_never, read_out, there_never}
+use Rattle.passes.proofs.GetReads.{HasOwnParameters, changes_or_document}
+use Rattle.passes.proofs.Judged.{WasRead, judged, there_never}
 use Rattle.passes.proofs.Spellings.{leads_into, parts-path, slashless, text_was}
 use Rattle.passes.specs.Spelled.{AreBytes, RevisionsAreOpened}
 
@@ -108,7 +104,8 @@ flat : (ts : List (List ℕ)) → items_depth (items_of (map text ts)) ≡ 0
 flat [] = refl
 flat (t ∷ ts) = omega (arith, flat ts)
 
-read_back : (ts : List (List ℕ)) → IsLawful (texts_value ts) → reading (canonical (texts_value ts)) ≡ Ok (texts_value ts)
+-- a list of texts is read back
+pub read_back : (ts : List (List ℕ)) → IsLawful (texts_value ts) → reading (canonical (texts_value ts)) ≡ Ok (texts_value ts)
 read_back ts lawful = reading-canonical (texts_value ts) lawful (omega (arith, flat ts))
 
 read_text : (deep text_ok : Bool) (bytes : List ℕ) (v : Value) → is_utf8 bytes ≡ text_ok → cond deep (Err Depth) (value_or_fault (cond text_ok (read bytes) None)) ≡ Ok v → is_utf8 bytes ≡ true
@@ -117,7 +114,7 @@ read_text false true bytes v is e = is
 read_text false false bytes v is e = absurd cc
 
 -- what was read is UTF-8
-utf8_read : (bytes : List ℕ) (v : Value) → reading bytes ≡ Ok v → IsUtf8 bytes
+pub utf8_read : (bytes : List ℕ) (v : Value) → reading bytes ≡ Ok v → IsUtf8 bytes
 utf8_read bytes v e = IsUtf8-from_is_utf8 bytes (read_text (nests_too_deep bytes) (is_utf8 bytes) bytes v refl e)
 
 -- ---- the path
@@ -200,51 +197,20 @@ abbrev with_histories : RequestedRevisions → DocumentQuery
 with_histories asked = record { asked = asked; revs = true }
 
 record AsksOpened (m : Message) (ts : List (List ℕ)) : Type 0 where
-  some : lacks_parameters m.query ≡ false
-  listing : listing_query m.query ≡ None
-  view : view_query m.query ≡ None
+  own : HasOwnParameters m
   changes : changes_query m.query ≡ None
   document : document_query m.query ≡ option_map with_histories (option_map revisions (revisions_listed (texts_value ts)))
 
-no_view : (m : Message) (ts : List (List ℕ)) → AsksOpened m ts → (db : Database) (v : Value) → view_read m db ≡ Ok v → ⊥
-no_view m ts asks db v e =
-    next_never (there_or Id (document_id_in m.path))
-    (λ design. and_then (there_or Id (index_name_in_path m.path)) (λ index. and_then (there_or Query (view_query m.query)) (λ keys. refusal_of_read (view_listing keys design index db)))) v
-    (λ design k. next_never (there_or Id (index_name_in_path m.path)) (λ index. and_then (there_or Query (view_query m.query)) (λ keys. refusal_of_read (view_listing keys design index db))) v
-    (λ index l. there_never Query (view_query m.query) (λ keys. refusal_of_read (view_listing keys design index db)) v asks.view l) k) e
-
-no_local : (m : Message) (ts : List (List ℕ)) → AsksOpened m ts → (db : Database) (v : Value) → local_read m db ≡ Ok v → ⊥
-no_local m ts asks db v e =
-    next_never (there_or Id (local_id_in m.path)) (λ id. and_then (plain m) (λ _. refusal_of_read (local_document id db))) v
-    (λ id k. plain_never m (λ _. refusal_of_read (local_document id db)) v asks.some k) e
+no_changes : (m : Message) (ts : List (List ℕ)) → AsksOpened m ts → (db : Database) (v : Value) → change_list m db ≡ Ok v → ⊥
+no_changes m ts asks db v e = there_never Query (changes_query m.query) (λ r. Ok (changes_in r db)) v asks.changes e
 
 abbrev Opened : Contents → Message → Outcome → Type 0
 Opened a m o = WasRead a m (λ name. document_read m) o
 
 at_page : (page : Page) (caller : auth.Identity) (a : Contents) (m : Message) (ts : List (List ℕ)) (task : Task) (o : Outcome) → AsksOpened m ts
     → task_of page (Some Get) caller m ≡ Ok task → task_outcome caller a task ≡ Ok o → Opened a m o
-at_page Welcome caller a m ts task o asks e f = absurd (plain_never m (λ _. Ok (told welcome)) task asks.some e)
-at_page AllDatabases caller a m ts task o asks e f =
-    absurd (next_never (administration caller) (λ _. and_then (plain m) (λ _. Ok listed)) task (λ u k. plain_never m (λ _. Ok listed) task asks.some k) e)
-at_page DatabasePage caller a m ts task o asks e f =
-    absurd (read_never caller a m (λ name. database_read m name) task o (λ name db v k. plain_never m (λ _. Ok (information name db)) v asks.some k) e f)
-at_page Security caller a m ts task o asks e f =
-    absurd (read_never caller a m (λ name. security_read m) task o (λ name db v k. plain_never m (λ _. Ok db.security) v asks.some k) e f)
-at_page BulkDocuments caller a m ts task o asks e f = absurd (never Method task e)
-at_page AllDocuments caller a m ts task o asks e f =
-    absurd (read_never caller a m (λ name. document_list m) task o
-    (λ name db v k. there_never Query (listing_query m.query) (λ r. Ok (document_listing r db)) v asks.listing k) e f)
-at_page Changes caller a m ts task o asks e f =
-    absurd (read_never caller a m (λ name. change_list m) task o
-    (λ name db v k. there_never Query (changes_query m.query) (λ r. Ok (changes_in r db)) v asks.changes k) e f)
-at_page Differences caller a m ts task o asks e f = absurd (never Method task e)
-at_page Find caller a m ts task o asks e f = absurd (never Method task e)
-at_page Index caller a m ts task o asks e f = absurd (never Method task e)
-at_page View caller a m ts task o asks e f =
-    absurd (read_never caller a m (λ name. view_read m) task o (λ name db v k. no_view m ts asks db v k) e f)
-at_page Document caller a m ts task o asks e f = read_out caller a m (λ name. document_read m) task o e f
-at_page LocalDocument caller a m ts task o asks e f =
-    absurd (read_never caller a m (λ name. local_read m) task o (λ name db v k. no_local m ts asks db v k) e f)
+at_page page caller a m ts task o asks e f =
+    ⊎_elim (λ w. absurd (no_changes m ts asks w.db w.value w.was)) (λ w. w) (changes_or_document page caller a m task o asks.own e f)
 
 asks_opened : (k : PassConfiguration) (side : Side) (r : Revisions) → AreBytes (canonical (texts_value r.revisions)) → IsLawful (texts_value r.revisions)
     → AsksOpened (request_of k side (call.open_revisions r)) r.revisions
@@ -253,9 +219,11 @@ asks_opened k side r small lawful =
     let back = read_back r.revisions lawful in
     let parameters = parameters_are list small (utf8_read list (texts_value r.revisions) back) in
     record {
-      some = some_pairs (raw_pairs (revisions_query r.revisions)) (codes "open_revs", list) ((codes "revs", codes "true") ∷ []) (query_parsed list small);
-      listing = ap range_asked parameters;
-      view = ap keys_asked parameters;
+      own = record {
+        some = some_pairs (raw_pairs (revisions_query r.revisions)) (codes "open_revs", list) ((codes "revs", codes "true") ∷ []) (query_parsed list small);
+        listing = ap range_asked parameters;
+        view = ap keys_asked parameters;
+      };
       changes = ap changes_asked parameters;
       document = ap asked_of_document parameters
           ∙ ap (λ (x : Result Value JsonFault). option_map with_histories (option_map revisions (option_and_then (λ v. revisions_listed v) (value_read x)))) back;

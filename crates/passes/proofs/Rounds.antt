@@ -416,26 +416,12 @@ holding s t a b p q e f h = subst (λ (x : Pass). Invariant x.phase s t b x) (sy
 stays_sized : (p q : Pass) → q.configuration ≡ p.configuration → IfSome p.configuration.batch (λ size. 1 ≤ size) → IfSome q.configuration.batch (λ size. 1 ≤ size)
 stays_sized p q e sized = subst (λ (c : PassConfiguration). IfSome c.batch (λ size. 1 ≤ size)) (sym e) sized
 
-lost_listed : (f : Phase) (s a : Database) → listed_after f s a lost ≡ a
-lost_listed ReadSource s a = refl
-lost_listed ReadTarget s a = refl
-lost_listed ListChanges s a = refl
-lost_listed Compare s a = refl
-lost_listed Open s a = refl
-lost_listed Push s a = refl
-lost_listed WriteSource s a = refl
-lost_listed WriteTarget s a = refl
-lost_listed RereadSource s a = refl
-lost_listed RereadTarget s a = refl
-lost_listed Done s a = refl
-lost_listed (Stopped why) s a = refl
-
 turn_invariant : (t : Turn) (old new : Scene) → Follows (turn t) old new → Holds old → Invariant new.pass.phase new.source new.target new.listed new.pass
 turn_invariant (answered status body) old new (grows, is, kept, truth) h =
     holding new.source new.target (listed_after old.pass.phase old.source old.listed (answered status body)) new.listed (answered_of old.pass status body) new.pass is kept
     (answered_holds old.pass.phase old.source new.source old.target new.target old.listed old.pass status body refl h.sized grows.source grows.target truth h.invariant)
 turn_invariant lost old new (grows, is, kept, truth) h =
-    holding new.source new.target old.listed new.listed (lost_of old.pass) new.pass is (kept ∙ lost_listed old.pass.phase old.source old.listed)
+    holding new.source new.target old.listed new.listed (lost_of old.pass) new.pass is kept
     (lost_holds new.source new.target old.listed old.pass (grown old.pass.phase old.source new.source old.target new.target old.listed old.pass grows.source grows.target h.invariant))
 
 follows_holds : (e : Event) (old new : Scene) → Follows e old new → Holds old → Holds new

@@ -12,7 +12,7 @@ use Rattle.repl.specs.Calls.{Revisions}
 use Rattle.repl.specs.Replies.{Changes, Opened, changes_listed, differences_read, documents_of_opened, documents_pushed, missing_reports, revisions_opened}
 use Rattle.repl.specs.Turns.{Turn, after_turn, answered, lost}
 use Rattle.repl.specs.declared.phase.Phase.{Phase}
-use Rattle.repl.specs.declared.phase.Phase.TheVariants.{ReadSource, ReadTarget, ListChanges, Compare, Open, Push, WriteSource, WriteTarget, RereadSource, RereadTarget, Done, Stopped}
+use Rattle.repl.specs.declared.phase.Phase.TheVariants.{ListChanges, Compare, Open, Push, WriteSource, WriteTarget, RereadSource, RereadTarget, Done}
 use Rattle.passes.specs.Settled.{is_among, is_reported, is_sent, is_settled}
 
 -- ---- what true replies say
@@ -49,18 +49,11 @@ Pushes db documents failures =
 
 -- a reply to what a pass asks in a phase, where the pass takes it in, is true of the source before it and of the target after it
 abbrev pub IsTruth : Phase → Pass → Database → Database → ℕ → List ℕ → Type 0
-IsTruth ReadSource p source target status body = ⊤
-IsTruth ReadTarget p source target status body = ⊤
 IsTruth ListChanges p source target status body = (c : Changes) → changes_listed status body ≡ Ok c → Names source p.since p.configuration.batch c
 IsTruth Compare p source target status body = (missing : List Revisions) → differences_read p.leaves status body ≡ Ok missing → Compares target p.leaves missing
 IsTruth Open p source target status body = (opened : List Opened) → revisions_opened status body ≡ Ok opened → Opens (first_of_pending p.pending) opened
 IsTruth Push p source target status body = (failures : List Value) → documents_pushed status body ≡ Ok failures → Pushes target p.documents failures
-IsTruth WriteSource p source target status body = ⊤
-IsTruth WriteTarget p source target status body = ⊤
-IsTruth RereadSource p source target status body = ⊤
-IsTruth RereadTarget p source target status body = ⊤
-IsTruth Done p source target status body = ⊤
-IsTruth (Stopped why) p source target status body = ⊤
+IsTruth phase p source target status body = ⊤
 
 -- ---- what happens
 
@@ -73,19 +66,9 @@ pub record Scene : Type 0 where
 
 -- the source that was listed last, after a turn
 abbrev pub listed_after : Phase → Database → Database → Turn → Database
-listed_after ReadSource source before t = before
-listed_after ReadTarget source before t = before
+listed_after phase source before lost = before
 listed_after ListChanges source before (answered status body) = source
-listed_after ListChanges source before lost = before
-listed_after Compare source before t = before
-listed_after Open source before t = before
-listed_after Push source before t = before
-listed_after WriteSource source before t = before
-listed_after WriteTarget source before t = before
-listed_after RereadSource source before t = before
-listed_after RereadTarget source before t = before
-listed_after Done source before t = before
-listed_after (Stopped why) source before t = before
+listed_after phase source before (answered status body) = before
 
 abbrev pub SaysTruth : Scene → Scene → Turn → Type 0
 SaysTruth old new (answered status body) = IsTruth old.pass.phase old.pass old.source new.target status body
@@ -128,18 +111,12 @@ Covers db start end now =
 
 -- a pass that writes its checkpoints, or is done
 abbrev pub has_covered : Phase → Bool
-has_covered ReadSource = false
-has_covered ReadTarget = false
-has_covered ListChanges = false
-has_covered Compare = false
-has_covered Open = false
-has_covered Push = false
 has_covered WriteSource = true
 has_covered WriteTarget = true
 has_covered RereadSource = true
 has_covered RereadTarget = true
 has_covered Done = true
-has_covered (Stopped why) = false
+has_covered phase = false
 
 -- a pass that writes its checkpoints, or is done, has settled what it listed in all its rounds: of the source as it was, and as it is now
 abbrev pub RoundsCover : Type 0

@@ -3,7 +3,6 @@ use Rattle.std.proofs.Common.{◌≡◌, ◌<◌, ◌∙◌, ℕ, zero, suc, ◌
 use Rattle.std.specs.Prelude.{⊤, nat_le}
 use Rattle.std.specs.List.{AllByRecursion}
 use Rattle.std.proofs.lemmas.List.Elements.{recursion_from_All}
-use Rattle.couch_http.specs.Message.{Message}
 use Rattle.node.specs.Runs.{Steps}
 use Rattle.node.specs.Step.{Serving}
 use Rattle.hub.specs.Arrival.{Arrival, fault_on, request_on}

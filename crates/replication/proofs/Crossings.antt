@@ -65,18 +65,8 @@ all_come db sound vs h [] said = tt
 all_come db sound vs h (w ∷ ws) said = (one_comes db sound vs w h said.0, all_come db sound vs h ws said.1)
 
 pub pushed_shown : (db : Database) (f : Phase) (p : Pass) → AreShown db p.documents → AreShown db (pushed_in f p)
-pushed_shown db ReadSource p h = tt
-pushed_shown db ReadTarget p h = tt
-pushed_shown db ListChanges p h = tt
-pushed_shown db Compare p h = tt
-pushed_shown db Open p h = tt
 pushed_shown db Push p h = h
-pushed_shown db WriteSource p h = tt
-pushed_shown db WriteTarget p h = tt
-pushed_shown db RereadSource p h = tt
-pushed_shown db RereadTarget p h = tt
-pushed_shown db Done p h = tt
-pushed_shown db (Stopped why) p h = tt
+pushed_shown db f p h = tt
 
 -- ---- the documents after a turn
 
@@ -158,19 +148,9 @@ with_carried : (s t listed : Database) (vs ws : List Value) → AreShown s ws �
 with_carried s t listed vs ws shown h = record { sound = h.sound; listed_sound = h.listed_sound; shown = shown; kept = h.kept; known = h.known }
 
 listed_on : (f : Phase) (t : Turn) (s s' d d' listed : Database) (vs : List Value) → KeepsDocuments s s' → KeepsAll d d' → Side s d listed vs → Side s' d' (listed_after f s listed t) vs
-listed_on ReadSource t s s' d d' listed vs same keeps h = side_on s s' d d' listed vs same keeps h
-listed_on ReadTarget t s s' d d' listed vs same keeps h = side_on s s' d d' listed vs same keeps h
+listed_on f lost s s' d d' listed vs same keeps h = side_on s s' d d' listed vs same keeps h
 listed_on ListChanges (answered status body) s s' d d' listed vs same keeps h = side_listed s s' d d' listed vs same h
-listed_on ListChanges lost s s' d d' listed vs same keeps h = side_on s s' d d' listed vs same keeps h
-listed_on Compare t s s' d d' listed vs same keeps h = side_on s s' d d' listed vs same keeps h
-listed_on Open t s s' d d' listed vs same keeps h = side_on s s' d d' listed vs same keeps h
-listed_on Push t s s' d d' listed vs same keeps h = side_on s s' d d' listed vs same keeps h
-listed_on WriteSource t s s' d d' listed vs same keeps h = side_on s s' d d' listed vs same keeps h
-listed_on WriteTarget t s s' d d' listed vs same keeps h = side_on s s' d d' listed vs same keeps h
-listed_on RereadSource t s s' d d' listed vs same keeps h = side_on s s' d d' listed vs same keeps h
-listed_on RereadTarget t s s' d d' listed vs same keeps h = side_on s s' d d' listed vs same keeps h
-listed_on Done t s s' d d' listed vs same keeps h = side_on s s' d d' listed vs same keeps h
-listed_on (Stopped why) t s s' d d' listed vs same keeps h = side_on s s' d d' listed vs same keeps h
+listed_on f (answered status body) s s' d d' listed vs same keeps h = side_on s s' d d' listed vs same keeps h
 
 -- ---- a turn
 

@@ -1,20 +1,15 @@
 -- The parts of a lawful value are lawful, and its texts are bytes.
-use Rattle.std.proofs.Common.{◌≡◌, ◌<◌, ◌⊎◌, ⊎_elim, ℕ, ◌+◌, ◌/◌, ◌%◌, Bool, true, false, cond, ◌&&◌, List, [], ◌∷◌, ◌++◌, map, Some, None, Ok, Err, refl, ◌∙◌, subst, ltb, ltb-true, arith}
+use Rattle.std.proofs.Common.{◌≡◌, ◌<◌, ⊎_elim, ℕ, ◌+◌, ◌/◌, ◌%◌, Bool, true, false, cond, ◌&&◌, List, [], ◌∷◌, ◌++◌, map, Some, refl, subst, ltb, ltb-true, arith}
 use Rattle.std.specs.Prelude.{IsUtf8}
 use Rattle.std.specs.List.{All, AllByRecursion}
-use Rattle.std.specs.Str.{is_utf8}
-use Rattle.std.proofs.lemmas.Str.{IsUtf8-from_is_utf8}
 use Rattle.std.proofs.lemmas.List.Elements.{All-from_recursion}
 use Rattle.couch_json.specs.Canonical.{canonical}
 use Rattle.couch_json.specs.Lawful.{AreLawfulItems, IsLawful}
-use Rattle.couch_json.specs.Nesting.{nests_too_deep}
 use Rattle.couch_json.specs.Parts.{items_in, text_in}
-use Rattle.couch_json.specs.Reading.{value_or_fault}
-use Rattle.couch_json.specs.Value.{Items, Value, array, items_depth, null, object, text, truth, whole}
+use Rattle.couch_json.specs.Value.{Items, Value, array, null, object, text, truth, whole}
 use Rattle.couch_json.specs.View.{items_of}
-use Rattle.couch_json.specs.declared.fault.JsonFault.TheVariants.{Depth}
-use Rattle.couch_json.proofs.ReadingBack.{reading-canonical}
-use Rattle.serde_json.specs.Read.{read}
+use Rattle.passes.proofs.Opening.{read_back, utf8_read}
+use Rattle.repl.specs.Calls.{texts_value}
 use lib.Utf8.{encode, encodes, scalar, scalar_cases, scalars}
 
 both_so : (a b : Bool) → (a && b) ≡ true → (a ≡ true) × (b ≡ true)
@@ -51,15 +46,6 @@ text_is_bytes s (cs, (are, spell)) = All-from_recursion (λ b. b < 256) s (subst
 
 -- ---- texts of a written list
 
-flat : (ts : List (List ℕ)) → items_depth (items_of (map text ts)) ≡ 0
-flat [] = refl
-flat (t ∷ ts) = omega (arith, flat ts)
-
-read_text : (deep text_ok : Bool) (bytes : List ℕ) (v : Value) → is_utf8 bytes ≡ text_ok → cond deep (Err Depth) (value_or_fault (cond text_ok (read bytes) None)) ≡ Ok v → is_utf8 bytes ≡ true
-read_text true text_ok bytes v is e = absurd cc
-read_text false true bytes v is e = is
-read_text false false bytes v is e = absurd cc
-
 pub lawful_texts : (ts : List (List ℕ)) → AllByRecursion IsUtf8 ts → AreLawfulItems (items_of (map text ts))
 lawful_texts [] are = tt
 lawful_texts (t ∷ ts) are = (are.0, lawful_texts ts are.1)
@@ -67,10 +53,8 @@ lawful_texts (t ∷ ts) are = (are.0, lawful_texts ts are.1)
 -- a list of texts, as it is written, is bytes
 pub written_list : (ts : List (List ℕ)) → AllByRecursion IsUtf8 ts → All (λ b. b < 256) (canonical (array (items_of (map text ts))))
 written_list ts are =
-    let bytes = canonical (array (items_of (map text ts))) in
-    text_is_bytes bytes
-    (IsUtf8-from_is_utf8 bytes (read_text (nests_too_deep bytes) (is_utf8 bytes) bytes (array (items_of (map text ts))) refl
-    (reading-canonical (array (items_of (map text ts))) (lawful_texts ts are) (omega (arith, flat ts)))))
+    let v = texts_value ts in
+    text_is_bytes (canonical v) (utf8_read (canonical v) v (read_back ts (lawful_texts ts are)))
 
 -- ---- parts
 

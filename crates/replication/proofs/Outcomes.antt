@@ -1,5 +1,5 @@
 -- The same events from the same network have one outcome, where each request was served; and so two calls are one.
-use Rattle.std.proofs.Common.{◌≡◌, ◌≢◌, ◌∙◌, ℕ, List, [], ◌∷◌, ◌++◌, map, Bool, true, false, Option, Some, None, refl, sym, ap, subst}
+use Rattle.std.proofs.Common.{◌≡◌, ◌≢◌, ◌∙◌, ℕ, List, [], ◌∷◌, ◌++◌, map, Option, Some, None, refl, sym, ap, subst}
 use Rattle.std.specs.Prelude.{⊤, slice_set}
 use Rattle.couch_http.proofs.CutLemmas.{Cuts_unique}
 use Rattle.couch_http.specs.Message.{Message}
@@ -19,7 +19,7 @@ use Rattle.world.specs.Exchanging.{IsAsked, IsCarried, IsMade, Question, questio
 use Rattle.world.specs.Happening.{Happening, Sight, comes, exchanged, exchanges}
 use Rattle.world.specs.Network.{Network, Transfer, node_of_connection, with_transfer}
 use Rattle.world.specs.Playing.{Happens, Plays, all_replied}
-use Rattle.world.specs.Service.{Asker, Handling, IsAnswered, IsHandled, IsService, SeenReply, StepOf, alike, by_pass, on_connection}
+use Rattle.world.specs.Service.{Asker, Handling, IsAnswered, IsService, SeenReply, StepOf, alike, by_pass, on_connection}
 use Rattle.world.specs.declared.fate.Fate.{Fate}
 use Rattle.world.specs.declared.fate.Fate.TheVariants.{Answered, ReplyLost, RequestLost}
 use Rattle.world.proofs.Events.{plays_then}

@@ -1,20 +1,16 @@
 -- Places in lists: of nodes and of passes.
-use Rattle.std.proofs.Common.{◌≡◌, ◌≢◌, ℕ, zero, suc, List, [], ◌∷◌, ◌++◌, length, Option, Some, refl, ap}
+use Rattle.std.proofs.Common.{◌≡◌, ◌≢◌, ℕ, zero, suc, List, [], ◌∷◌, ◌++◌, length, Option, Some, refl, ap, arith}
 use Rattle.std.specs.Prelude.{slice_set}
 use Rattle.std.specs.List.{slice_get}
+use Rattle.std.proofs.lemmas.Grind.{common_steps}
+use Rattle.std.proofs.lemmas.Option.{gets}
 use Rattle.world.specs.Network.{Transfer, transfer_at, with_transfer}
 
 pub set_here : {A : Type 0} (xs : List A) (i : ℕ) (x y : A) → slice_get xs i ≡ Some x → slice_get (slice_set xs i y) i ≡ Some y
-set_here [] i x y e = absurd cc
-set_here (z ∷ xs) zero x y e = refl
-set_here (z ∷ xs) (suc i) x y e = set_here xs i x y e
+set_here xs i x y e = grind (arith, common_steps, gets)
 
 pub set_elsewhere : {A : Type 0} (xs : List A) (i j : ℕ) (y : A) → j ≢ i → slice_get (slice_set xs i y) j ≡ slice_get xs j
-set_elsewhere [] i j y apart = refl
-set_elsewhere (z ∷ xs) zero zero y apart = absurd (apart refl)
-set_elsewhere (z ∷ xs) zero (suc j) y apart = refl
-set_elsewhere (z ∷ xs) (suc i) zero y apart = refl
-set_elsewhere (z ∷ xs) (suc i) (suc j) y apart = set_elsewhere xs i j y (λ e. apart (ap suc e))
+set_elsewhere xs i j y apart = grind (arith, common_steps, gets)
 
 pub got_before : {A : Type 0} (xs ys : List A) (i : ℕ) (x : A) → slice_get xs i ≡ Some x → slice_get (xs ++ ys) i ≡ Some x
 got_before [] ys i x e = absurd cc

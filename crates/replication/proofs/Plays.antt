@@ -104,6 +104,11 @@ present t pass x there (inr none) is = absurd (let k : (let y : Option Transfer 
 here_still : (t : Transfer) (pass : Pass) (before after : Option Transfer) → after ≡ before → IsHere t pass before → IsHere t pass after
 here_still t pass before after e h = subst (IsHere t pass) (sym e) h
 
+-- this database is there, at a place and under a name whose database has stayed since the base
+record StandsAt (base now : Nodes) (place : ℕ) (name : List ℕ) (db : Database) : Type 0 where
+  is : database_at now place name ≡ db
+  stays : StaysAt base now place name
+
 record Stand (p q : ℕ) (t u : Transfer) (base : Nodes) (now : Network Contents) (c : PairState) : Type 0 where
   there : IsHere t c.there (transfer_at now.transfers p)
   back : IsHere u c.back (transfer_at now.transfers q)
@@ -112,16 +117,18 @@ record Stand (p q : ℕ) (t u : Transfer) (base : Nodes) (now : Network Contents
   there_sound : IsSoundPass c.there
   back_sound : IsSoundPass c.back
   lawful : LawfulAt now.nodes
-  one : database_at now.nodes t.from t.pass.configuration.source_db ≡ c.one
-  other : database_at now.nodes t.to t.pass.configuration.target_db ≡ c.other
-  one_stays : StaysAt base now.nodes t.from t.pass.configuration.source_db
-  other_stays : StaysAt base now.nodes t.to t.pass.configuration.target_db
+  one : StandsAt base now.nodes t.from t.pass.configuration.source_db c.one
+  other : StandsAt base now.nodes t.to t.pass.configuration.target_db c.other
 
 at_moved : (nodes : Nodes) (a b : ℕ) (k l : List ℕ) (db : Database) → a ≡ b → k ≡ l → database_at nodes a k ≡ db → database_at nodes b l ≡ db
 at_moved nodes a b k l db e f at = subst (λ (x : ℕ). database_at nodes x l ≡ db) e (subst (λ (n : List ℕ). database_at nodes a n ≡ db) f at)
 
-stays_moved : (old new : Nodes) (a b : ℕ) (k l : List ℕ) → a ≡ b → k ≡ l → StaysAt old new a k → StaysAt old new b l
-stays_moved old new a b k l e f stays = subst (λ (x : ℕ). StaysAt old new x l) e (subst (λ (n : List ℕ). StaysAt old new a n) f stays)
+-- a database that is there after a turn, by the place and the name that a pass has for it
+stands_on : (base old new : Nodes) (a b : ℕ) (k l : List ℕ) (before db : Database) → a ≡ b → k ≡ l → database_at new a k ≡ db → StaysAt old new a k → StandsAt base old b l before → StandsAt base new b l db
+stands_on base old new a b k l before db e f at stays s = record {
+  is = at_moved new a b k l db e f at;
+  stays = stays_still base old new b l s.stays (subst (λ (x : ℕ). StaysAt old new x l) e (subst (λ (n : List ℕ). StaysAt old new a n) f stays));
+}
 
 -- some moves on
 record Next (p q : ℕ) (t u : Transfer) (base : Nodes) (new : Network Contents) (c : PairState) : Type 0 where
@@ -139,8 +146,8 @@ module _ (p q : ℕ) (t u : Transfer) (base : Nodes) where
   others_move : (old new : Network Contents) (c : PairState) → Stand p q t u base old c → Spares t old.nodes new.nodes → transfer_at new.transfers p ≡ transfer_at old.transfers p
       → transfer_at new.transfers q ≡ transfer_at old.transfers q → Next p q t u base new c
   others_move old new c s spares there back =
-      let a = into old.nodes t.from t.pass.configuration.source_db new.nodes KeepsDocuments spares.both.0 c.one s.one in
-      let b = into old.nodes t.to t.pass.configuration.target_db new.nodes KeepsDocuments spares.both.1 c.other s.other in
+      let a = into old.nodes t.from t.pass.configuration.source_db new.nodes KeepsDocuments spares.both.0 c.one s.one.is in
+      let b = into old.nodes t.to t.pass.configuration.target_db new.nodes KeepsDocuments spares.both.1 c.other s.other.is in
       let after : PairState = record c { one = a.0; other = b.0 } in
       record {
         moves = others ∷ [];
@@ -154,10 +161,8 @@ module _ (p q : ℕ) (t u : Transfer) (base : Nodes) where
           there_sound = s.there_sound;
           back_sound = s.back_sound;
           lawful = spares.lawful s.lawful;
-          one = a.1;
-          other = b.1;
-          one_stays = stays_still base old.nodes new.nodes t.from t.pass.configuration.source_db s.one_stays spares.both.0.1;
-          other_stays = stays_still base old.nodes new.nodes t.to t.pass.configuration.target_db s.other_stays spares.both.1.1;
+          one = record { is = a.1; stays = stays_still base old.nodes new.nodes t.from t.pass.configuration.source_db s.one.stays spares.both.0.1 };
+          other = record { is = b.1; stays = stays_still base old.nodes new.nodes t.to t.pass.configuration.target_db s.other.stays spares.both.1.1 };
         };
       }
 
@@ -183,12 +188,10 @@ module _ (p q : ℕ) (t u : Transfer) (base : Nodes) where
           there_sound = h.sound;
           back_sound = s.back_sound;
           lawful = h.lawful;
-          one = at_moved new.nodes t.from t.from c.there.configuration.source_db t.pass.configuration.source_db h.source_now refl (ap (λ (k : PassConfiguration). k.source_db) s.there_same) h.source_at;
-          other = at_moved new.nodes t.to t.to c.there.configuration.target_db t.pass.configuration.target_db h.target_now refl (ap (λ (k : PassConfiguration). k.target_db) s.there_same) h.target_at;
-          one_stays = stays_still base old.nodes new.nodes t.from t.pass.configuration.source_db s.one_stays
-              (stays_moved old.nodes new.nodes t.from t.from c.there.configuration.source_db t.pass.configuration.source_db refl (ap (λ (k : PassConfiguration). k.source_db) s.there_same) h.source_stays);
-          other_stays = stays_still base old.nodes new.nodes t.to t.pass.configuration.target_db s.other_stays
-              (stays_moved old.nodes new.nodes t.to t.to c.there.configuration.target_db t.pass.configuration.target_db refl (ap (λ (k : PassConfiguration). k.target_db) s.there_same) h.target_stays);
+          one = stands_on base old.nodes new.nodes t.from t.from c.there.configuration.source_db t.pass.configuration.source_db c.one h.source_now refl
+              (ap (λ (k : PassConfiguration). k.source_db) s.there_same) h.source_at h.source_stays s.one;
+          other = stands_on base old.nodes new.nodes t.to t.to c.there.configuration.target_db t.pass.configuration.target_db c.other h.target_now refl
+              (ap (λ (k : PassConfiguration). k.target_db) s.there_same) h.target_at h.target_stays s.other;
         };
       }
 
@@ -211,12 +214,10 @@ module _ (p q : ℕ) (t u : Transfer) (base : Nodes) where
           there_sound = s.there_sound;
           back_sound = h.sound;
           lawful = h.lawful;
-          one = at_moved new.nodes u.to t.from c.back.configuration.target_db t.pass.configuration.source_db h.target_now o.to (ap (λ (k : PassConfiguration). k.target_db) s.back_same ∙ o.target) h.target_at;
-          other = at_moved new.nodes u.from t.to c.back.configuration.source_db t.pass.configuration.target_db h.source_now o.from (ap (λ (k : PassConfiguration). k.source_db) s.back_same ∙ o.source) h.source_at;
-          one_stays = stays_still base old.nodes new.nodes t.from t.pass.configuration.source_db s.one_stays
-              (stays_moved old.nodes new.nodes u.to t.from c.back.configuration.target_db t.pass.configuration.source_db o.to (ap (λ (k : PassConfiguration). k.target_db) s.back_same ∙ o.target) h.target_stays);
-          other_stays = stays_still base old.nodes new.nodes t.to t.pass.configuration.target_db s.other_stays
-              (stays_moved old.nodes new.nodes u.from t.to c.back.configuration.source_db t.pass.configuration.target_db o.from (ap (λ (k : PassConfiguration). k.source_db) s.back_same ∙ o.source) h.source_stays);
+          one = stands_on base old.nodes new.nodes u.to t.from c.back.configuration.target_db t.pass.configuration.source_db c.one h.target_now o.to
+              (ap (λ (k : PassConfiguration). k.target_db) s.back_same ∙ o.target) h.target_at h.target_stays s.one;
+          other = stands_on base old.nodes new.nodes u.from t.to c.back.configuration.source_db t.pass.configuration.target_db c.other h.source_now o.from
+              (ap (λ (k : PassConfiguration). k.source_db) s.back_same ∙ o.source) h.source_at h.source_stays s.other;
         };
       }
 
@@ -230,8 +231,8 @@ module _ (p q : ℕ) (t u : Transfer) (base : Nodes) where
       let x : Transfer = record t { pass = c.there } in
       let told = subst IsTold (sym s.there_same) o.there_told in
       let distinct : t.from ≡ t.to → c.there.configuration.source_db ≢ c.there.configuration.target_db = subst (λ (k : PassConfiguration). t.from ≡ t.to → k.source_db ≢ k.target_db) (sym s.there_same) o.apart in
-      let one : database_at old.nodes t.from c.there.configuration.source_db ≡ c.one = subst (λ (k : PassConfiguration). database_at old.nodes t.from k.source_db ≡ c.one) (sym s.there_same) s.one in
-      let other : database_at old.nodes t.to c.there.configuration.target_db ≡ c.other = subst (λ (k : PassConfiguration). database_at old.nodes t.to k.target_db ≡ c.other) (sym s.there_same) s.other in
+      let one : database_at old.nodes t.from c.there.configuration.source_db ≡ c.one = subst (λ (k : PassConfiguration). database_at old.nodes t.from k.source_db ≡ c.one) (sym s.there_same) s.one.is in
+      let other : database_at old.nodes t.to c.there.configuration.target_db ≡ c.other = subst (λ (k : PassConfiguration). database_at old.nodes t.to k.target_db ≡ c.other) (sym s.there_same) s.other.is in
       ⊎_elim
       (λ e. no_move old new c e s)
       (λ h. there_move old new c apart at s (has_turned p x old new c.one c.other c.one_listed s.lawful one other h))
@@ -247,8 +248,8 @@ module _ (p q : ℕ) (t u : Transfer) (base : Nodes) where
       λ e f.
       o.apart (sym o.to ∙ sym e ∙ o.from)
       (sym o.target ∙ sym (ap (λ (k : PassConfiguration). k.target_db) s.back_same) ∙ sym f ∙ ap (λ (k : PassConfiguration). k.source_db) s.back_same ∙ o.source) in
-      let other = at_moved old.nodes t.to u.from t.pass.configuration.target_db c.back.configuration.source_db c.other (sym o.from) (sym (ap (λ (k : PassConfiguration). k.source_db) s.back_same ∙ o.source)) s.other in
-      let one = at_moved old.nodes t.from u.to t.pass.configuration.source_db c.back.configuration.target_db c.one (sym o.to) (sym (ap (λ (k : PassConfiguration). k.target_db) s.back_same ∙ o.target)) s.one in
+      let other = at_moved old.nodes t.to u.from t.pass.configuration.target_db c.back.configuration.source_db c.other (sym o.from) (sym (ap (λ (k : PassConfiguration). k.source_db) s.back_same ∙ o.source)) s.other.is in
+      let one = at_moved old.nodes t.from u.to t.pass.configuration.source_db c.back.configuration.target_db c.one (sym o.to) (sym (ap (λ (k : PassConfiguration). k.target_db) s.back_same ∙ o.target)) s.one.is in
       ⊎_elim
       (λ e. no_move old new c e s)
       (λ h. back_move old new c o apart at s (has_turned q x old new c.other c.one c.other_listed s.lawful other one h))
@@ -312,10 +313,8 @@ module _ (p q : ℕ) (t u : Transfer) (base : Nodes) where
     there_sound = s.there_sound;
     back_sound = s.back_sound;
     lawful = subst LawfulAt (sym k.nodes) s.lawful;
-    one = subst (λ (n : Nodes). database_at n t.from t.pass.configuration.source_db ≡ c.one) (sym k.nodes) s.one;
-    other = subst (λ (n : Nodes). database_at n t.to t.pass.configuration.target_db ≡ c.other) (sym k.nodes) s.other;
-    one_stays = subst (λ (n : Nodes). StaysAt base n t.from t.pass.configuration.source_db) (sym k.nodes) s.one_stays;
-    other_stays = subst (λ (n : Nodes). StaysAt base n t.to t.pass.configuration.target_db) (sym k.nodes) s.other_stays;
+    one = subst (λ (n : Nodes). StandsAt base n t.from t.pass.configuration.source_db c.one) (sym k.nodes) s.one;
+    other = subst (λ (n : Nodes). StandsAt base n t.to t.pass.configuration.target_db c.other) (sym k.nodes) s.other;
   }
 
   course_moves : (ss : List QuietStage) (old new : Network Contents) (c : PairState) → AreOpposite t u → p ≢ q → Stand p q t u base old c
@@ -360,10 +359,8 @@ stands_first two old o s lawful = record {
   there_sound = subst IsSoundPass (sym o.there_first) (first_sound two.there.pass.configuration);
   back_sound = subst IsSoundPass (sym o.back_first) (first_sound two.back.pass.configuration);
   lawful = lawful;
-  one = refl;
-  other = refl;
-  one_stays = λ db at. (db, at);
-  other_stays = λ db at. (db, at);
+  one = record { is = refl; stays = λ db at. (db, at) };
+  other = record { is = refl; stays = λ db at. (db, at) };
 }
 
 copied : (n : ℕ) (now : Network Contents) (t : Transfer) (p : Pass) → IsHere t p (transfer_at now.transfers n) → HasEnded n now → HasCopiedAll p
@@ -411,7 +408,7 @@ met two ss old new o s course pair lawful =
 met_pair : (two : TwoPasses) (base : Nodes) (new : Network Contents) → Met two base new → IsPair (source_of two.there new) (target_of two.there new)
 met_pair two base new k =
     let pair = keep_pair two.there.pass.configuration two.back.pass.configuration k.moves k.now k.went k.begins in
-    subst (λ (x : Database). IsPair x (target_of two.there new)) (sym k.stand.one) (subst (λ (y : Database). IsPair k.now.one y) (sym k.stand.other) pair)
+    subst (λ (x : Database). IsPair x (target_of two.there new)) (sym k.stand.one.is) (subst (λ (y : Database). IsPair k.now.one y) (sym k.stand.other.is) pair)
 
 met_tree : (two : TwoPasses) (base : Nodes) (new : Network Contents) → HasEnded two.there_number new → HasEnded two.back_number new → (id : List ℕ) → Met two base new
     → HaveSameTree (history_at (source_of two.there new) id) (history_at (target_of two.there new) id)
@@ -419,8 +416,8 @@ met_tree two base new there back id k =
     let same : HaveSameTree (history_at k.now.one id) (history_at k.now.other id) =
     two_converge two.there.pass.configuration two.back.pass.configuration k.moves k.now k.went k.begins
     (copied two.there_number new two.there k.now.there k.stand.there there) (copied two.back_number new two.back k.now.back k.stand.back back) id in
-    subst (λ (x : Database). HaveSameTree (history_at x id) (history_at (target_of two.there new) id)) (sym k.stand.one)
-    (subst (λ (y : Database). HaveSameTree (history_at k.now.one id) (history_at y id)) (sym k.stand.other) same)
+    subst (λ (x : Database). HaveSameTree (history_at x id) (history_at (target_of two.there new) id)) (sym k.stand.one.is)
+    (subst (λ (y : Database). HaveSameTree (history_at k.now.one id) (history_at y id)) (sym k.stand.other.is) same)
 
 pub networks_converge : PassesOfANetworkConverge
 networks_converge two ss old new o s course pair there back id =
@@ -460,6 +457,6 @@ both_stay two ss old new a b o s course ends =
     (λ lawful.
     let c = first_crossing two.there two.back (source_of two.there old) (target_of two.there old) in
     let k = course_moves two.there_number two.back_number two.there two.back old.nodes ss old new c o s.apart (stands_first two old o s lawful) course in
-    let one = k.stand.one_stays a ends.source in
-    let other = k.stand.other_stays b ends.target in
+    let one = k.stand.one.stays a ends.source in
+    let other = k.stand.other.stays b ends.target in
     (one.0, other.0, record { source = one.1; target = other.1 }))

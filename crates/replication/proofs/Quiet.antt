@@ -1,8 +1,6 @@
 -- Calls of a pass that write no document.
-use Rattle.std.proofs.Common.{◌≡◌, ◌≢◌, inl, inr, ◌==◌, ℕ, List, [], ◌∷◌, ◌++◌, map, Bool, true, false, cond, not, Option, Some, None, option_and_then, Result, Ok, Err, codes, bytes_eq, Ordering, Less, Equal, Greater, nat_cmp, slice_get, length, lt-ltb, is_none, arith, refl, sym, ap, ◌∙◌, subst}
+use Rattle.std.proofs.Common.{◌≡◌, ◌≢◌, inl, inr, ◌==◌, ℕ, List, [], ◌∷◌, ◌++◌, map, Bool, true, false, cond, not, Option, Some, None, option_and_then, Result, Ok, Err, codes, bytes_eq, slice_get, length, lt-ltb, is_none, arith, refl, sym, ap, ◌∙◌, subst}
 use Rattle.std.specs.Prelude.{⊤}
-use Rattle.std.specs.Cmp.Lexicographic.{slice_cmp}
-use Rattle.std.specs.Ordering.{match_ordering}
 use Rattle.std.specs.Str.{is_utf8}
 use Rattle.std.specs.FinMap.{get, get-insert, insert}
 use Rattle.std.proofs.lemmas.Cmp.{nat_list_cmp_total}
@@ -14,10 +12,10 @@ use Rattle.auth.specs.Callers as auth
 use Rattle.couch_http.specs.Message.{Message}
 use Rattle.couch_http.specs.Reply.{Reply}
 use Rattle.couch_json.specs.Reading.{reading}
-use Rattle.couch_json.specs.Value.{Value, Members, member, member_at, no_members, object, put, text}
+use Rattle.couch_json.specs.Value.{Value, Members, member_at, no_members, object, text}
 use Rattle.couch_json.specs.View.{items_of}
 use Rattle.couch_json.proofs.ReadingBack.{what_was_read}
-use Rattle.find.specs.Indexes.{design_in, index_in, index_with}
+use Rattle.find.specs.Indexes.{index_in}
 use Rattle.percent_encoding.proofs.OnLiterals.{percent_encoding_on_literals}
 use Rattle.percent_encoding.specs.Percent.{percent_decode}
 use Rattle.policy.specs.declared.action.Action.{Action}
@@ -47,12 +45,12 @@ use Rattle.node.specs.Runs.{Steps}
 use Rattle.node.specs.Work.{Done, Effect, Work, appended, local_put, nothing, read_work, secured, value_done, with_effect}
 use Rattle.node.specs.Works.{bulk_written, change_list, database_read, difference_list, document_finds, document_list, document_read, document_written, documents_written, done, edit_asked, edit_in, index_asked_in, index_written, local_read, local_set, local_written, security_read, security_set, security_written, view_read}
 use Rattle.node.proofs.Tasks.{IsMade, judged_right, named as was_named, same, went}
-use Rattle.repl.specs.Calls.{Call, Revisions, compare_revisions, list_changes, open_revisions, page_path, push_documents, read_checkpoint, request_of, revisions_put, texts_value, write_checkpoint}
+use Rattle.repl.specs.Calls.{Call, compare_revisions, list_changes, open_revisions, page_path, push_documents, read_checkpoint, request_of, revisions_put, write_checkpoint}
 use Rattle.repl.specs.Configuration.{PassConfiguration, database_of_side}
 use Rattle.repl.specs.Spelling.{segment}
 use Rattle.repl.specs.declared.side.Side.{Side}
 use Rattle.replication.specs.Finished.{found_or_new}
-use Rattle.passes.proofs.Comparing.{HasBody, value_was}
+use Rattle.passes.proofs.Comparing.{AreTexts, HasBody, IfTexts, no_index, texts_all, texts_at, value_was}
 use Rattle.passes.proofs.Judged.{never, there_never}
 use Rattle.passes.proofs.Opening.{id_by_parts, id_of_parts}
 use Rattle.passes.proofs.Spellings.{parts-path, slashless}
@@ -309,51 +307,6 @@ checkpoint_path db id =
 
 -- ---- a comparison names lists of texts
 
-abbrev AreTexts : Members → Type 0
-AreTexts no_members = ⊤
-AreTexts (member name v ms) = ((ts : List (List ℕ)) × (v ≡ texts_value ts)) × AreTexts ms
-
-abbrev IfTexts : Option Value → Type 0
-IfTexts None = ⊤
-IfTexts (Some v) = (ts : List (List ℕ)) × (v ≡ texts_value ts)
-
-texts_put : (name : List ℕ) (ts : List (List ℕ)) (ms : Members) → AreTexts ms → AreTexts (put name (texts_value ts) ms)
-texts_put name ts no_members h = ((ts, refl), tt)
-texts_put name ts (member other w ms) h = by (slice_cmp nat_cmp name other) (texts_put name ts ms h.1)
-  where
-    by : (o : Ordering) → AreTexts (put name (texts_value ts) ms)
-        → AreTexts (match_ordering o (member name (texts_value ts) (member other w ms)) (member other (texts_value ts) ms) (member other w (put name (texts_value ts) ms)))
-    by Less rest = ((ts, refl), h)
-    by Equal rest = ((ts, refl), h.1)
-    by Greater rest = (h.0, rest)
-
-texts_all : (rs : List Revisions) (found : Members) → AreTexts found → AreTexts (revisions_put rs found)
-texts_all [] found h = h
-texts_all (r ∷ rs) found h = texts_all rs (put r.id (texts_value r.revisions) found) (texts_put r.id r.revisions found h)
-
-texts_at : (name : List ℕ) (ms : Members) → AreTexts ms → IfTexts (member_at name ms)
-texts_at name no_members h = tt
-texts_at name (member other w ms) h = by (slice_cmp nat_cmp name other) (texts_at name ms h.1)
-  where
-    by : (o : Ordering) → IfTexts (member_at name ms) → IfTexts (match_ordering o (member_at name ms) (Some w) (member_at name ms))
-    by Less rest = rest
-    by Equal rest = h.0
-    by Greater rest = rest
-
-no_design : (o : Option Value) → IfTexts o → option_and_then (λ v. design_in v) o ≡ None
-no_design None h = refl
-no_design (Some v) (ts, is) = ap design_in is
-
-pub either_none : {A : Type 0} (b : Bool) (o : Option A) → o ≡ None → cond b o None ≡ None
-either_none true o e = e
-either_none false o e = refl
-
-no_index : (ms : Members) → AreTexts ms → index_in (object ms) ≡ None
-no_index ms h =
-    let v = object ms in
-    either_none _ _
-    (ap (λ (o : Option (List ℕ)). option_and_then (λ design. index_with v design) o) (no_design (member_at (codes "ddoc") ms) (texts_at (codes "ddoc") ms h)))
-
 pub elements_back : (vs : List Value) → elements_of_items (items_of vs) ≡ vs
 elements_back [] = refl
 elements_back (v ∷ vs) = ap (λ (xs : List Value). v ∷ xs) (elements_back vs)
@@ -395,19 +348,11 @@ no_declaration caller m name ms body none db d e =
     absurd (there_never Body (index_in l.first) (λ asked. index_asked_in caller name db asked) d (ap index_in (body l.first l.was) ∙ none) l.then)
 
 quiet_post : (page : Page) (caller : auth.Identity) (m : Message) (ms : Members) (task : Task) → HasBody m ms → AreTexts ms → task_of page (Some Post) caller m ≡ Ok task → IsQuiet task
-quiet_post Welcome caller m ms task body texts e = absurd (never Method task e)
-quiet_post AllDatabases caller m ms task body texts e = absurd (never Method task e)
-quiet_post DatabasePage caller m ms task body texts e = absurd (never Method task e)
-quiet_post Security caller m ms task body texts e = absurd (never Method task e)
 quiet_post BulkDocuments caller m ms task body texts e = quiet_work WriteDocument m (λ name. documents_written caller m name) task (λ name. quiet_documents caller m name ms body texts) e
-quiet_post AllDocuments caller m ms task body texts e = absurd (never Method task e)
-quiet_post Changes caller m ms task body texts e = absurd (never Method task e)
 quiet_post Differences caller m ms task body texts e = quiet_read m (λ name. difference_list m) task e
 quiet_post Find caller m ms task body texts e = quiet_read m (λ name. document_finds m) task e
 quiet_post Index caller m ms task body texts e = quiet_work WriteDocument m (λ name. index_written caller m name) task (λ name. no_declaration caller m name ms body (no_index ms texts)) e
-quiet_post View caller m ms task body texts e = absurd (never Method task e)
-quiet_post Document caller m ms task body texts e = absurd (never Method task e)
-quiet_post LocalDocumentPage caller m ms task body texts e = absurd (never Method task e)
+quiet_post page caller m ms task body texts e = absurd (never Method task e)
 
 -- ---- the calls
 

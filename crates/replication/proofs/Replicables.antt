@@ -57,7 +57,7 @@ use Rattle.node.proofs.Tasks.{same, there, went}
 use Rattle.replication.specs.Courses.{GoesBy, Stage, arranges, runs}
 use Rattle.replication.specs.Runs.{Run}
 use Rattle.world.specs.Network.{Network}
-use Rattle.replication.specs.Replicable.{AreReplicable, HaveWritable, CoursesKeepWritable, RunsKeepReplicable, RunsKeepWritable, StepsKeepReplicable, StepsKeepWritable}
+use Rattle.replication.specs.Replicable.{AreAll, HaveWritable, CoursesKeepWritable, RunsKeepReplicable, RunsKeepWritable, StepsKeepReplicable, StepsKeepWritable}
 use Rattle.replication.specs.Sound.{AreWritable, IsReplicable}
 use Rattle.replication.proofs.Cleanly.{AreClean, IsClean, edit_clean, one_stays, one_writable, replicated_clean}
 use Rattle.replication.proofs.Quiet.{get_put}
@@ -355,7 +355,7 @@ module _ (P : Database → Type 0) (writable : (db : Database) → P db → AreW
 no_database : (name : List ℕ) (db : Database) → get {X = Database} {R = slice_cmp nat_cmp} empty name ≡ Some db → ⊥
 no_database name db e = let k : None ≡ Some db = sym (get-empty {X = Database} (slice_cmp nat_cmp) name) ∙ e in cc
 
-replicable_stays : (c : auth.Configuration) (a : Contents) (m : Message) (r : Reply) (after : Contents) → Steps c a m r after → AreReplicable a → AreReplicable after
+replicable_stays : (c : auth.Configuration) (a : Contents) (m : Message) (r : Reply) (after : Contents) → Steps c a m r after → AreAll IsReplicable a → AreAll IsReplicable after
 replicable_stays =
     step_stays IsReplicable (λ db h. h.writable) new_stays one_stays (λ db security h. record { plain = h.plain; writable = h.writable })
     (λ db id document h. record { plain = h.plain; writable = h.writable })
@@ -402,7 +402,7 @@ module _ (Q : Contents → Type 0) (steps : (c : auth.Configuration) (a : Conten
   stages_stay (arranges ∷ ss) old new (between, arranged, rest) h = stages_stay ss between new rest (subst AtAll (sym arranged.nodes) h)
 
 pub runs_keep : RunsKeepReplicable
-runs_keep = run_stays AreReplicable replicable_stays
+runs_keep = run_stays (AreAll IsReplicable) replicable_stays
 
 pub runs_keep_writable : RunsKeepWritable
 runs_keep_writable = run_stays HaveWritable writable_stays

@@ -16,7 +16,7 @@ use Rattle.repl.specs.Passes.{Pass, answered_in, first_pass, pass_after, phase_a
 use Rattle.repl.specs.Replies.{Changes, changes_listed, checkpoint_read}
 use Rattle.repl.specs.Turns.{Turn, after_turn, after_turns, answered, has_listed, lists_at, lists_in, lost, replies_in, start_by, told_at, told_of}
 use Rattle.repl.specs.declared.phase.Phase.{Phase}
-use Rattle.repl.specs.declared.phase.Phase.TheVariants.{ReadSource, ReadTarget, ListChanges, Compare, Open, Push, WriteSource, WriteTarget, RereadSource, RereadTarget, Done, Stopped}
+use Rattle.repl.specs.declared.phase.Phase.TheVariants.{ReadSource, ReadTarget, ListChanges, Stopped}
 use Rattle.repl.specs.declared.why.Why.{Why}
 use Rattle.repl.proofs.LossLemmas.{lost_by}
 use Rattle.repl.proofs.ReportLemmas.{all_told}
@@ -279,15 +279,8 @@ abbrev IsEarly : Phase → Type 0
 IsEarly ReadSource = ⊤
 IsEarly ReadTarget = ⊤
 IsEarly ListChanges = ⊤
-IsEarly Compare = ⊥
-IsEarly Open = ⊥
-IsEarly Push = ⊥
-IsEarly WriteSource = ⊥
-IsEarly WriteTarget = ⊥
-IsEarly RereadSource = ⊥
-IsEarly RereadTarget = ⊥
-IsEarly Done = ⊥
 IsEarly (Stopped why) = ⊤
+IsEarly phase = ⊥
 
 early_after : {A : Type 0} (take : Pass → A → Pass) (p : Pass) (r : Result A Why) → ((a : A) → IsEarly (take p a).phase) → IsEarly (pass_after take p r).phase
 early_after take p (Ok a) each = each a
@@ -301,29 +294,15 @@ early_in : (f : Phase) (p : Pass) (status : ℕ) (body : List ℕ) → p.phase �
 early_in ReadSource p status body is h e = early_after with_source p (checkpoint_read status body) (λ s. tt)
 early_in ReadTarget p status body is h e = early_after with_target p (checkpoint_read status body) (λ s. tt)
 early_in ListChanges p status body is h e = early_list p (changes_listed status body) e
-early_in Compare p status body is h e = absurd h
-early_in Open p status body is h e = absurd h
-early_in Push p status body is h e = absurd h
-early_in WriteSource p status body is h e = absurd h
-early_in WriteTarget p status body is h e = absurd h
-early_in RereadSource p status body is h e = absurd h
-early_in RereadTarget p status body is h e = absurd h
-early_in Done p status body is h e = absurd h
 early_in (Stopped why) p status body is h e = subst IsEarly (sym is) tt
+early_in f p status body is h e = absurd h
 
 early_loss : (f : Phase) → IsEarly f → IsEarly (phase_after_loss f)
 early_loss ReadSource h = tt
 early_loss ReadTarget h = tt
 early_loss ListChanges h = tt
-early_loss Compare h = absurd h
-early_loss Open h = absurd h
-early_loss Push h = absurd h
-early_loss WriteSource h = absurd h
-early_loss WriteTarget h = absurd h
-early_loss RereadSource h = absurd h
-early_loss RereadTarget h = absurd h
-early_loss Done h = absurd h
 early_loss (Stopped why) h = tt
+early_loss f h = absurd h
 
 early_turn : (p : Pass) (x : Turn) → IsEarly p.phase → lists_at p x ≡ false → IsEarly (after_turn p x).phase
 early_turn p (answered status body) h e = early_in p.phase p status body refl h e

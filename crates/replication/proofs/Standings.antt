@@ -1,7 +1,6 @@
 -- Where a pass stands in a run: what its events make a scene of, and which list of changes it took in last.
 use Rattle.std.proofs.Common.{◌≡◌, ◌≤◌, ◌∙◌, ◌⊎◌, inl, inr, ◌==◌, ◌||◌, ℕ, Bool, true, false, cond, List, [], ◌∷◌, ◌++◌, Option, Some, None, Result, Ok, Err, eqb-true, refl, sym, ap, subst}
 use Rattle.std.specs.Prelude.{IfSome, is_ok, ⊤}
-use Rattle.couch_http.specs.Message.{Message}
 use Rattle.couch_http.specs.Reply.{Reply}
 use Rattle.store.specs.Contents.{Contents}
 use Rattle.store.specs.Database.{Database, IsLater}
@@ -11,7 +10,7 @@ use Rattle.repl.specs.Passes.{Asked, Pass, answered_in, asked_of, done, first_pa
 use Rattle.repl.specs.Replies.{Changes, changes_listed}
 use Rattle.repl.specs.Turns.{Turn, after_turn, after_turns, answered, has_listed, lists_at, lists_in, lost}
 use Rattle.repl.specs.declared.phase.Phase.{Phase}
-use Rattle.repl.specs.declared.phase.Phase.TheVariants.{ReadSource, ReadTarget, ListChanges, Compare, Open, Push, WriteSource, WriteTarget, RereadSource, RereadTarget, Done, Stopped}
+use Rattle.repl.specs.declared.phase.Phase.TheVariants.{ListChanges, Stopped}
 use Rattle.repl.specs.declared.why.Why.{Why}
 use Rattle.passes.specs.Owed.{Event, Follows, Goes, IsTruth, Scene, Went, listed_after, others, turn}
 use Rattle.world.specs.Exchanging.{IsAsked, IsCarried, IsMade, Question, question_to_source, question_to_target}
@@ -42,18 +41,8 @@ abbrev pub IsStopped : Phase → Type 0
 IsStopped f = (why : Why) × (f ≡ Stopped why)
 
 listed_in : (f : Phase) (source before : Database) (status : ℕ) (body : List ℕ) → lists_in f status body ≡ true → listed_after f source before (answered status body) ≡ source
-listed_in ReadSource source before status body e = absurd cc
-listed_in ReadTarget source before status body e = absurd cc
 listed_in ListChanges source before status body e = refl
-listed_in Compare source before status body e = absurd cc
-listed_in Open source before status body e = absurd cc
-listed_in Push source before status body e = absurd cc
-listed_in WriteSource source before status body e = absurd cc
-listed_in WriteTarget source before status body e = absurd cc
-listed_in RereadSource source before status body e = absurd cc
-listed_in RereadTarget source before status body e = absurd cc
-listed_in Done source before status body e = absurd cc
-listed_in (Stopped why) source before status body e = absurd cc
+listed_in f source before status body e = absurd cc
 
 listed_now : (p : Pass) (source before : Database) (x : Turn) → lists_at p x ≡ true → listed_after p.phase source before x ≡ source
 listed_now p source before (answered status body) e = listed_in p.phase source before status body e
@@ -65,36 +54,12 @@ not_listed p (Err why) e = (why, refl)
 
 unlisted_in : (f : Phase) (p : Pass) (source before : Database) (status : ℕ) (body : List ℕ) → lists_in f status body ≡ false
     → (listed_after f source before (answered status body) ≡ before) ⊎ IsStopped (answered_in f p status body).phase
-unlisted_in ReadSource p source before status body e = inl refl
-unlisted_in ReadTarget p source before status body e = inl refl
 unlisted_in ListChanges p source before status body e = inr (not_listed p (changes_listed status body) e)
-unlisted_in Compare p source before status body e = inl refl
-unlisted_in Open p source before status body e = inl refl
-unlisted_in Push p source before status body e = inl refl
-unlisted_in WriteSource p source before status body e = inl refl
-unlisted_in WriteTarget p source before status body e = inl refl
-unlisted_in RereadSource p source before status body e = inl refl
-unlisted_in RereadTarget p source before status body e = inl refl
-unlisted_in Done p source before status body e = inl refl
-unlisted_in (Stopped why) p source before status body e = inl refl
-
-lost_unlisted : (f : Phase) (source before : Database) → listed_after f source before lost ≡ before
-lost_unlisted ReadSource source before = refl
-lost_unlisted ReadTarget source before = refl
-lost_unlisted ListChanges source before = refl
-lost_unlisted Compare source before = refl
-lost_unlisted Open source before = refl
-lost_unlisted Push source before = refl
-lost_unlisted WriteSource source before = refl
-lost_unlisted WriteTarget source before = refl
-lost_unlisted RereadSource source before = refl
-lost_unlisted RereadTarget source before = refl
-lost_unlisted Done source before = refl
-lost_unlisted (Stopped why) source before = refl
+unlisted_in f p source before status body e = inl refl
 
 unlisted_now : (p : Pass) (source before : Database) (x : Turn) → lists_at p x ≡ false → (listed_after p.phase source before x ≡ before) ⊎ IsStopped (after_turn p x).phase
 unlisted_now p source before (answered status body) e = unlisted_in p.phase p source before status body e
-unlisted_now p source before lost e = inl (lost_unlisted p.phase source before)
+unlisted_now p source before lost e = inl refl
 
 -- a pass that has stopped stays so
 stopped_turn : (p : Pass) (x : Turn) → IsStopped p.phase → after_turn p x ≡ p

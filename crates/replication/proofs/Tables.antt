@@ -1,13 +1,11 @@
 -- What connections that are opened later change of pieces that came before: nothing.
-use Rattle.std.proofs.Common.{◌≡◌, ◌≢◌, ◌∙◌, ◌⊎◌, inl, inr, ℕ, ◌+◌, leb, leb-true, leb-false, Bool, true, false, ◌&&◌, cond, List, [], ◌∷◌, ◌++◌, map, Option, Some, None, refl, sym, ap, subst, arith}
+use Rattle.std.proofs.Common.{◌≡◌, ◌≢◌, ◌∙◌, ℕ, ◌+◌, leb, leb-true, leb-false, Bool, true, false, ◌&&◌, cond, List, [], ◌∷◌, ◌++◌, map, Option, Some, None, refl, sym, ap, subst, arith}
 use Rattle.std.specs.Prelude.{⊤, nat_le}
 use Rattle.std.specs.List.{AllByRecursion}
 use Rattle.std.specs.Cmp.{nat_cmp_total}
-use Rattle.std.specs.FinMap.{FinMap, get, get-insert, get-remove, gets, insert, remove, same_map, nat_cmp-IsAntisymmetric}
-use Rattle.std.specs.Ordering.{eq_by_cmp, nat_cmp}
-use Rattle.std.proofs.lemmas.Bool.{cases_eq}
-use Rattle.std.proofs.lemmas.Map.Lookups.{exact_unsigned}
-use Rattle.std.proofs.lemmas.Map.Views.{tells_apart}
+use Rattle.std.specs.FinMap.{FinMap, get, gets, insert, remove, same_map, nat_cmp-IsAntisymmetric}
+use Rattle.std.specs.Ordering.{nat_cmp}
+use Rattle.std.proofs.lemmas.Bool.Decides.{nat_tests}
 use Rattle.couch_http.specs.Message.{Message}
 use Rattle.couch_http.specs.Stream.{StreamEnd, unfinished, ended, faulty}
 use Rattle.hub.specs.Arrival.{Arrival, BringsBehind, Piece, fault_at, fault_on, request_on}
@@ -16,43 +14,14 @@ use Rattle.hub.specs.Endings.{rest_of}
 
 -- ---- tables
 
-apart_by : (q k : ℕ) (b : Bool) → eq_by_cmp nat_cmp q k ≡ b → q ≢ k → b ≡ false
-apart_by q k true is apart = absurd (apart (tells_apart exact_unsigned q k is))
-apart_by q k false is apart = refl
-
-get_same : (m : FinMap nat_cmp (List ℕ)) (k : ℕ) (v : List ℕ) → get (insert m k v) k ≡ Some v
-get_same m k v = grind (gets, arith)
-
 get_other : (m : FinMap nat_cmp (List ℕ)) (k q : ℕ) (v : List ℕ) → q ≢ k → get (insert m k v) q ≡ get m q
-get_other m k q v apart = get-insert nat_cmp_total m k v q ∙ ap (λ (b : Bool). cond b (Some v) (get m q)) (apart_by q k (eq_by_cmp nat_cmp q k) refl apart)
-
-gone_same : (m : FinMap nat_cmp (List ℕ)) (k : ℕ) → get (remove m k) k ≡ None
-gone_same m k = grind (gets, arith)
-
-gone_other : (m : FinMap nat_cmp (List ℕ)) (k q : ℕ) → q ≢ k → get (remove m k) q ≡ get m q
-gone_other m k q apart = get-remove nat_cmp_total m k q ∙ ap (λ (b : Bool). cond b None (get m q)) (apart_by q k (eq_by_cmp nat_cmp q k) refl apart)
+get_other m k q v apart = grind (gets, arith, nat_tests)
 
 insert_insert : (m : FinMap nat_cmp (List ℕ)) (j k : ℕ) (v w : List ℕ) → j ≢ k → insert (insert m j v) k w ≡ insert (insert m k w) j v
-insert_insert m j k v w apart = same_map nat_cmp_total nat_cmp-IsAntisymmetric _ _ (λ q. by q (cases_eq q j) (cases_eq q k))
-  where
-    by : (q : ℕ) → (q ≡ j) ⊎ (q ≢ j) → (q ≡ k) ⊎ (q ≢ k) → get (insert (insert m j v) k w) q ≡ get (insert (insert m k w) j v) q
-    by q (inl a) (inl b) = absurd (apart (sym a ∙ b))
-    by q (inl a) (inr b) =
-        get_other (insert m j v) k q w b ∙ subst (λ (x : ℕ). get (insert m j v) x ≡ get (insert (insert m k w) j v) x) (sym a) (get_same m j v ∙ sym (get_same (insert m k w) j v))
-    by q (inr a) (inl b) =
-        subst (λ (x : ℕ). get (insert (insert m j v) k w) x ≡ get (insert m k w) x) (sym b) (get_same (insert m j v) k w ∙ sym (get_same m k w)) ∙ sym (get_other (insert m k w) j q v a)
-    by q (inr a) (inr b) = get_other (insert m j v) k q w b ∙ get_other m j q v a ∙ sym (get_other m k q w b) ∙ sym (get_other (insert m k w) j q v a)
+insert_insert m j k v w apart = same_map nat_cmp_total nat_cmp-IsAntisymmetric _ _ (λ q. grind (gets, arith, nat_tests))
 
 insert_remove : (m : FinMap nat_cmp (List ℕ)) (j k : ℕ) (w : List ℕ) → j ≢ k → insert (remove m j) k w ≡ remove (insert m k w) j
-insert_remove m j k w apart = same_map nat_cmp_total nat_cmp-IsAntisymmetric _ _ (λ q. by q (cases_eq q j) (cases_eq q k))
-  where
-    by : (q : ℕ) → (q ≡ j) ⊎ (q ≢ j) → (q ≡ k) ⊎ (q ≢ k) → get (insert (remove m j) k w) q ≡ get (remove (insert m k w) j) q
-    by q (inl a) (inl b) = absurd (apart (sym a ∙ b))
-    by q (inl a) (inr b) =
-        get_other (remove m j) k q w b ∙ subst (λ (x : ℕ). get (remove m j) x ≡ get (remove (insert m k w) j) x) (sym a) (gone_same m j ∙ sym (gone_same (insert m k w) j))
-    by q (inr a) (inl b) =
-        subst (λ (x : ℕ). get (insert (remove m j) k w) x ≡ get (insert m k w) x) (sym b) (get_same (remove m j) k w ∙ sym (get_same m k w)) ∙ sym (gone_other (insert m k w) j q a)
-    by q (inr a) (inr b) = get_other (remove m j) k q w b ∙ gone_other m j q a ∙ sym (get_other m k q w b) ∙ sym (gone_other (insert m k w) j q a)
+insert_remove m j k w apart = same_map nat_cmp_total nat_cmp-IsAntisymmetric _ _ (λ q. grind (gets, arith, nat_tests))
 
 -- a number that was given is not the next one
 given_before : (table : ConnectionTable) (conn : ℕ) → was_opened table conn ≡ true → conn ≢ next_connection table

@@ -1,17 +1,20 @@
 -- An exchange of a pass is a turn of it.
-use Rattle.std.proofs.Common.{◌≡◌, ◌≢◌, ◌⊎◌, inl, inr, ℕ, Bool, true, false, List, refl, sym, ap, ◌∙◌, subst}
+use Rattle.std.proofs.Common.{◌≡◌, ◌≢◌, ◌⊎◌, inl, inr, ℕ, Bool, true, false, List, [], refl, sym, ap, ◌∙◌, subst}
 use Rattle.std.specs.Prelude.{⊤}
 use Rattle.couch_http.specs.Message.{Message}
 use Rattle.couch_http.specs.Reply.{Reply}
+use Rattle.couch_json.specs.Value.{Value}
 use Rattle.store.specs.Contents.{Contents}
 use Rattle.store.specs.Database.{Database}
 use Rattle.node.specs.Runs.{Steps}
-use Rattle.repl.specs.Calls.{compare_revisions, list_changes, open_revisions, read_checkpoint, request_of, write_checkpoint}
+use Rattle.repl.specs.Calls.{Call, compare_revisions, list_changes, open_revisions, read_checkpoint, request_of, write_checkpoint}
 use Rattle.repl.specs.Checkpoints.{checkpoint_id}
+use Rattle.repl.specs.Configuration.{PassConfiguration}
 use Rattle.repl.specs.Passes.{Pass, answered_in, asked_by, checkpoint_after, first_of_pending, lost_of, step_in}
 use Rattle.repl.specs.Turns.{Turn, after_turn, answered, lost}
 use Rattle.repl.specs.declared.phase.Phase.{Phase}
 use Rattle.repl.specs.declared.phase.Phase.TheVariants.{ReadSource, ReadTarget, ListChanges, Compare, Open, Push, WriteSource, WriteTarget, RereadSource, RereadTarget, Done, Stopped}
+use Rattle.repl.specs.declared.side.Side.{Side}
 use Rattle.repl.specs.declared.side.Side.TheVariants.{Source, Target}
 use Rattle.passes.specs.Owed.{IsTruth, SaysTruth, Scene, listed_after}
 use Rattle.world.specs.Exchanging.{IsAsked, IsCarried, IsMade, Question}
@@ -27,6 +30,7 @@ use Rattle.replication.proofs.Sound.{IsSound, asks_lawfully, lost_sound}
 use Rattle.replication.proofs.Truths.{IsHandledFor, taken_rightly}
 use Rattle.replication.specs.Appended.{Appends, KeepsDocuments}
 use Rattle.replication.specs.Crossing.{BringsShown, IsTurn, pushed_in}
+use Rattle.replication.specs.Written.{AsksLawfully, is_push}
 use Rattle.replication.proofs.Handlings.{BothBecome, Nodes, appends_none, into, opens_shown, pushed, quiet}
 use Rattle.replication.proofs.Quiet.{same_documents}
 
@@ -66,20 +70,6 @@ unchanged x f p old new e =
       lawful = λ h. h;
     })
 
-lost_shown : (f : Phase) (p : Pass) (source : Database) → BringsShown f p source lost
-lost_shown ReadSource p source = tt
-lost_shown ReadTarget p source = tt
-lost_shown ListChanges p source = tt
-lost_shown Compare p source = tt
-lost_shown Open p source = tt
-lost_shown Push p source = tt
-lost_shown WriteSource p source = tt
-lost_shown WriteTarget p source = tt
-lost_shown RereadSource p source = tt
-lost_shown RereadTarget p source = tt
-lost_shown Done p source = tt
-lost_shown (Stopped why) p source = tt
-
 module _ (handling : Handling Contents) (handled : (who : Asker) (old : Nodes) (place : ℕ) (m : Message) (r : Reply) (new : Nodes) → handling who old place m r new → IsHandled Steps old place m r new)
     (fate : Fate) (old new : Network Contents) (number : ℕ) (x : Transfer) (seen : List Sight) (told : IsTold x.pass.configuration)
     (apart : x.from ≡ x.to → x.pass.configuration.source_db ≢ x.pass.configuration.target_db) (lawful : LawfulAt old.nodes) (sound : IsSound x.pass) where
@@ -114,7 +104,7 @@ module _ (handling : Handling Contents) (handled : (who : Asker) (old : Nodes) (
         both = both;
         sound = lost_sound x.pass sound;
         truth = tt;
-        shown = lost_shown f x.pass (database_at old.nodes x.from x.pass.configuration.source_db);
+        shown = tt;
       }
 
       by : (g : Fate) (t : Turn) → IsCarried handling g old.nodes q t i.nodes → new.transfers ≡ with_transfer old.transfers number (record x { pass = after_turn x.pass t })
@@ -135,48 +125,35 @@ module _ (handling : Handling Contents) (handled : (who : Asker) (old : Nodes) (
       by ReplyLost t c transfers = without t c.2 transfers (effect c.0 new.nodes (to_new c.0 (handled (by_pass number ReplyLost) old.nodes place m c.0 i.nodes c.1)))
       by RequestLost t c transfers = without t c.1 transfers (unchanged x f x.pass old.nodes new.nodes (nodes_are ∙ c.0))
 
-  -- a call that pushes nothing and opens nothing
+  abbrev its_configuration : PassConfiguration
+  its_configuration = x.pass.configuration
+
+  -- a call that pushes nothing
+  made_quietly : (f : Phase) (place : ℕ) (is_to_target : Bool) (side : Side) (call : Call) → is_push call ≡ false → AsksLawfully call → pushed_in f x.pass ≡ []
+      → ((r : Reply) (nodes : Nodes) → IsHandled Steps old.nodes place (request_of its_configuration side call) r nodes → IsHandledFor x (asked_by x.pass (step_in f x.pass)) old.nodes r nodes)
+      → ((r : Reply) (nodes : Nodes) → IsHandled Steps old.nodes place (request_of its_configuration side call) r nodes → BringsShown f x.pass (database_at old.nodes x.from its_configuration.source_db) (answered r.status r.body))
+      → IsMade handling fate old (record { number = number; transfer = x; place = place; is_to_target = is_to_target; message = request_of its_configuration side call }) seen new → HasTurn number x f x.pass old new
+  made_quietly f place is_to_target side call other asks none into shown i =
+      made f place is_to_target (request_of its_configuration side call) into
+      (λ r nodes h. subst (λ (ds : List Value). BothBecome x its_configuration ds old.nodes nodes) (sym none) (quiet x its_configuration told apart old.nodes nodes r place side call other asks h)) shown i
+
   pub turned : (f : Phase) → IsAsked handling fate old number x (asked_by x.pass (step_in f x.pass)) seen new → (new ≡ old) ⊎ HasTurn number x f x.pass old new
-  turned ReadSource i =
-      let k = x.pass.configuration in
-      inr (made ReadSource x.from false (request_of k Source (read_checkpoint (checkpoint_id k))) (λ r nodes h. h)
-      (λ r nodes h. quiet x k told apart old.nodes nodes r x.from Source (read_checkpoint (checkpoint_id k)) refl tt h) (λ r nodes h. tt) i)
-  turned ReadTarget i =
-      let k = x.pass.configuration in
-      inr (made ReadTarget x.to true (request_of k Target (read_checkpoint (checkpoint_id k))) (λ r nodes h. h)
-      (λ r nodes h. quiet x k told apart old.nodes nodes r x.to Target (read_checkpoint (checkpoint_id k)) refl tt h) (λ r nodes h. tt) i)
-  turned ListChanges i =
-      let k = x.pass.configuration in
-      inr (made ListChanges x.from false (request_of k Source (list_changes x.pass.since k.batch)) (λ r nodes h. h)
-      (λ r nodes h. quiet x k told apart old.nodes nodes r x.from Source (list_changes x.pass.since k.batch) refl tt h) (λ r nodes h. tt) i)
+  turned ReadSource i = inr (made_quietly ReadSource x.from false Source (read_checkpoint (checkpoint_id its_configuration)) refl tt refl (λ r nodes h. h) (λ r nodes h. tt) i)
+  turned ReadTarget i = inr (made_quietly ReadTarget x.to true Target (read_checkpoint (checkpoint_id its_configuration)) refl tt refl (λ r nodes h. h) (λ r nodes h. tt) i)
+  turned ListChanges i = inr (made_quietly ListChanges x.from false Source (list_changes x.pass.since its_configuration.batch) refl tt refl (λ r nodes h. h) (λ r nodes h. tt) i)
   turned Compare i =
-      let k = x.pass.configuration in
-      inr (made Compare x.to true (request_of k Target (compare_revisions x.pass.leaves)) (λ r nodes h. h)
-      (λ r nodes h. quiet x k told apart old.nodes nodes r x.to Target (compare_revisions x.pass.leaves) refl (asks_lawfully x.pass.leaves sound.leaves) h) (λ r nodes h. tt) i)
+      inr (made_quietly Compare x.to true Target (compare_revisions x.pass.leaves) refl (asks_lawfully x.pass.leaves sound.leaves) refl (λ r nodes h. h) (λ r nodes h. tt) i)
   turned Open i =
-      let k = x.pass.configuration in
-      inr (made Open x.from false (request_of k Source (open_revisions (first_of_pending x.pass.pending))) (λ r nodes h. h)
-      (λ r nodes h. quiet x k told apart old.nodes nodes r x.from Source (open_revisions (first_of_pending x.pass.pending)) refl tt h)
-      (λ r nodes h. opens_shown k told x.from x.pass old.nodes nodes r sound h) i)
+      inr (made_quietly Open x.from false Source (open_revisions (first_of_pending x.pass.pending)) refl tt refl (λ r nodes h. h)
+      (λ r nodes h. opens_shown its_configuration told x.from x.pass old.nodes nodes r sound h) i)
   turned Push i =
-      let k = x.pass.configuration in
-      inr (made Push x.to true _ (λ r nodes h. h) (λ r nodes h. pushed x k told apart old.nodes nodes r x.pass.documents sound.documents h) (λ r nodes h. tt) i)
+      inr (made Push x.to true _ (λ r nodes h. h) (λ r nodes h. pushed x its_configuration told apart old.nodes nodes r x.pass.documents sound.documents h) (λ r nodes h. tt) i)
   turned WriteSource i =
-      let k = x.pass.configuration in
-      inr (made WriteSource x.from false (request_of k Source (write_checkpoint (checkpoint_id k) (checkpoint_after x.pass x.pass.source_revision))) (λ r nodes h. h)
-      (λ r nodes h. quiet x k told apart old.nodes nodes r x.from Source (write_checkpoint (checkpoint_id k) (checkpoint_after x.pass x.pass.source_revision)) refl tt h) (λ r nodes h. tt) i)
+      inr (made_quietly WriteSource x.from false Source (write_checkpoint (checkpoint_id its_configuration) (checkpoint_after x.pass x.pass.source_revision)) refl tt refl (λ r nodes h. h) (λ r nodes h. tt) i)
   turned WriteTarget i =
-      let k = x.pass.configuration in
-      inr (made WriteTarget x.to true (request_of k Target (write_checkpoint (checkpoint_id k) (checkpoint_after x.pass x.pass.target_revision))) (λ r nodes h. h)
-      (λ r nodes h. quiet x k told apart old.nodes nodes r x.to Target (write_checkpoint (checkpoint_id k) (checkpoint_after x.pass x.pass.target_revision)) refl tt h) (λ r nodes h. tt) i)
-  turned RereadSource i =
-      let k = x.pass.configuration in
-      inr (made RereadSource x.from false (request_of k Source (read_checkpoint (checkpoint_id k))) (λ r nodes h. h)
-      (λ r nodes h. quiet x k told apart old.nodes nodes r x.from Source (read_checkpoint (checkpoint_id k)) refl tt h) (λ r nodes h. tt) i)
-  turned RereadTarget i =
-      let k = x.pass.configuration in
-      inr (made RereadTarget x.to true (request_of k Target (read_checkpoint (checkpoint_id k))) (λ r nodes h. h)
-      (λ r nodes h. quiet x k told apart old.nodes nodes r x.to Target (read_checkpoint (checkpoint_id k)) refl tt h) (λ r nodes h. tt) i)
+      inr (made_quietly WriteTarget x.to true Target (write_checkpoint (checkpoint_id its_configuration) (checkpoint_after x.pass x.pass.target_revision)) refl tt refl (λ r nodes h. h) (λ r nodes h. tt) i)
+  turned RereadSource i = inr (made_quietly RereadSource x.from false Source (read_checkpoint (checkpoint_id its_configuration)) refl tt refl (λ r nodes h. h) (λ r nodes h. tt) i)
+  turned RereadTarget i = inr (made_quietly RereadTarget x.to true Target (read_checkpoint (checkpoint_id its_configuration)) refl tt refl (λ r nodes h. h) (λ r nodes h. tt) i)
   turned Done i = inl i.1
   turned (Stopped why) i = inl i.1
 

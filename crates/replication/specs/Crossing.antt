@@ -9,7 +9,7 @@ use Rattle.repl.specs.Passes.{Pass, first_of_pending, first_pass}
 use Rattle.repl.specs.Replies.{Opened, documents_of_opened, revisions_opened}
 use Rattle.repl.specs.Turns.{Turn, after_turn, answered, lost}
 use Rattle.repl.specs.declared.phase.Phase.{Phase}
-use Rattle.repl.specs.declared.phase.Phase.TheVariants.{ReadSource, ReadTarget, ListChanges, Compare, Open, Push, WriteSource, WriteTarget, RereadSource, RereadTarget, Done, Stopped}
+use Rattle.repl.specs.declared.phase.Phase.TheVariants.{Open, Push}
 use Rattle.passes.specs.Owed.{SaysTruth, Scene, listed_after}
 use Rattle.replication.specs.Appended.{Appends, IsShownBy, KeepsDocuments}
 
@@ -17,18 +17,8 @@ use Rattle.replication.specs.Appended.{Appends, IsShownBy, KeepsDocuments}
 
 -- the documents that a pass pushes in a phase
 abbrev pub pushed_in : Phase → Pass → List Value
-pushed_in ReadSource p = []
-pushed_in ReadTarget p = []
-pushed_in ListChanges p = []
-pushed_in Compare p = []
-pushed_in Open p = []
 pushed_in Push p = p.documents
-pushed_in WriteSource p = []
-pushed_in WriteTarget p = []
-pushed_in RereadSource p = []
-pushed_in RereadTarget p = []
-pushed_in Done p = []
-pushed_in (Stopped why) p = []
+pushed_in phase p = []
 
 -- the documents in a reply to opened revisions are shown by this database
 abbrev pub OpensShown : Database → Pass → ℕ → List ℕ → Type 0
@@ -37,19 +27,9 @@ OpensShown db p status body =
 
 -- where a pass takes documents in, its source shows them
 abbrev pub BringsShown : Phase → Pass → Database → Turn → Type 0
-BringsShown ReadSource p db t = ⊤
-BringsShown ReadTarget p db t = ⊤
-BringsShown ListChanges p db t = ⊤
-BringsShown Compare p db t = ⊤
+BringsShown phase p db lost = ⊤
 BringsShown Open p db (answered status body) = OpensShown db p status body
-BringsShown Open p db lost = ⊤
-BringsShown Push p db t = ⊤
-BringsShown WriteSource p db t = ⊤
-BringsShown WriteTarget p db t = ⊤
-BringsShown RereadSource p db t = ⊤
-BringsShown RereadTarget p db t = ⊤
-BringsShown Done p db t = ⊤
-BringsShown (Stopped why) p db t = ⊤
+BringsShown phase p db (answered status body) = ⊤
 
 -- A turn of a pass. A push appends to the target what its documents say, or some of it, or nothing, whether the reply comes back or
 -- not; no other turn writes a document at either side. The reply is true, and the documents that come are the source's.

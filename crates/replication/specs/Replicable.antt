@@ -24,42 +24,54 @@ use Rattle.replication.specs.Requests.{DatabasesStay, requests_of}
 use Rattle.replication.specs.Runs.{Run, pass_at}
 use Rattle.replication.specs.Sound.{AreWritable, IsReplicable}
 
--- each database has plain bodies, and revisions that can be written
-abbrev pub AreReplicable : Contents → Type 0
-AreReplicable contents = (name : List ℕ) (db : Database) → get contents name ≡ Some db → IsReplicable db
+-- ---- what each answer keeps of databases
 
--- A store without databases is so, and whatever a node answers, its databases stay so.
-pub record StepsKeepReplicable : Type 0 where
-  pub none : AreReplicable empty
-  pub steps : (c : auth.Configuration) (before : Contents) (m : Message) (r : Reply) (after : Contents) → Steps c before m r after → AreReplicable before → AreReplicable after
+-- each database is such
+abbrev pub AreAll : (Database → Type 0) → Contents → Type 0
+AreAll P contents = (name : List ℕ) (db : Database) → get contents name ≡ Some db → P db
 
--- the databases of each node are so
-abbrev pub AreAllReplicable : List (Serving Contents) → Type 0
-AreAllReplicable nodes = (place : ℕ) (node : Serving Contents) → slice_get nodes place ≡ Some node → AreReplicable node.store
+-- A store without databases has such ones alone, and whatever a node answers, its databases stay so.
+pub record StepsKeep (P : Database → Type 0) : Type 0 where
+  pub none : AreAll P empty
+  pub steps : (c : auth.Configuration) (before : Contents) (m : Message) (r : Reply) (after : Contents) → Steps c before m r after → AreAll P before → AreAll P after
+
+-- the databases of each node are such
+abbrev pub AreAllAtNodes : (Database → Type 0) → List (Serving Contents) → Type 0
+AreAllAtNodes P nodes = (place : ℕ) (node : Serving Contents) → slice_get nodes place ≡ Some node → AreAll P node.store
 
 -- Through a run of a network the databases of its nodes stay so.
-abbrev pub RunsKeepReplicable : Type 0
-RunsKeepReplicable = (old new : Network Contents) → Run (alike Steps) old new → AreAllReplicable old.nodes → AreAllReplicable new.nodes
+abbrev pub RunsKeep : (Database → Type 0) → Type 0
+RunsKeep P = (old new : Network Contents) → Run (alike Steps) old new → AreAllAtNodes P old.nodes → AreAllAtNodes P new.nodes
 
--- ---- revisions that can be written, alone
+-- ---- plain bodies, and revisions that can be written
+
+-- each answer of a node keeps plain bodies and revisions that can be written
+abbrev pub StepsKeepReplicable : Type 0
+StepsKeepReplicable = StepsKeep IsReplicable
+
+-- each run of a network keeps that
+abbrev pub RunsKeepReplicable : Type 0
+RunsKeepReplicable = RunsKeep IsReplicable
+
+-- ---- revisions that can be written, whatever bodies are
 
 -- each known revision of each database can be written
 abbrev pub HaveWritable : Contents → Type 0
-HaveWritable contents = (name : List ℕ) (db : Database) → get contents name ≡ Some db → AreWritable db
+HaveWritable = AreAll AreWritable
 
--- A store without databases has such revisions alone, and whatever a node answers, they stay so, whatever bodies are.
-pub record StepsKeepWritable : Type 0 where
-  pub none : HaveWritable empty
-  pub steps : (c : auth.Configuration) (before : Contents) (m : Message) (r : Reply) (after : Contents) → Steps c before m r after → HaveWritable before → HaveWritable after
+-- each answer of a node keeps that
+abbrev pub StepsKeepWritable : Type 0
+StepsKeepWritable = StepsKeep AreWritable
 
--- the databases of each node have
+-- the databases of each node have such revisions alone
 abbrev pub AreAllWritable : List (Serving Contents) → Type 0
-AreAllWritable nodes = (place : ℕ) (node : Serving Contents) → slice_get nodes place ≡ Some node → HaveWritable node.store
+AreAllWritable = AreAllAtNodes AreWritable
 
--- So it stays through a run of a network, and through a course.
+-- each run of a network keeps that
 abbrev pub RunsKeepWritable : Type 0
-RunsKeepWritable = (old new : Network Contents) → Run (alike Steps) old new → AreAllWritable old.nodes → AreAllWritable new.nodes
+RunsKeepWritable = RunsKeep AreWritable
 
+-- each course of a network keeps that
 abbrev pub CoursesKeepWritable : Type 0
 CoursesKeepWritable = (old new : Network Contents) → Course Steps old new → AreAllWritable old.nodes → AreAllWritable new.nodes
 
