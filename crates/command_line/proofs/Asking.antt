@@ -1,5 +1,6 @@
 -- What the words of a command line ask for, by what clap found, and which texts are numbers.
 use Rattle.std.proofs.Common.{◌≡◌, ◌≢◌, ◌≤◌, ◌<◌, ◌^◌, ◌⊎◌, inl, inr, ℕ, Bool, true, false, ◌&&◌, List, [], ◌∷◌, Option, Some, None, Result, Ok, Err, length, nat_le, nat_lt, if◌then◌else◌, refl, sym, ap, ◌∙◌, arith}
+use Rattle.std.specs.Prelude.{IfSome, option_map}
 use Rattle.std.specs.Char.{is_ascii_digit}
 use Rattle.std.specs.List.{list_all}
 use Rattle.std.specs.Result.{OkIff}
@@ -16,6 +17,17 @@ use Rattle.command_line.specs.Plan.{asked_unless, is_numeral, number_between}
 pub asked_unless-refused : (kinds : Kinds) (command : Option (Text × List Row)) → kinds ≢ [] → asked_unless kinds command ≡ None
 asked_unless-refused [] command some = absurd (some refl)
 asked_unless-refused (kind ∷ kinds) command some = refl
+
+-- ---- values
+
+-- a text that is read out of what is there
+pub text_there : {A : Type 0} (read : A → Text) (o : Option A) (t : Option Text) → option_map read o ≡ t → IfSome o (λ a. t ≡ Some (read a))
+text_there read (Some a) t e = sym e
+text_there read None t e = tt
+
+-- where nothing is there, no text is
+pub none_there : {A : Type 0} (read : A → Text) (o : Option A) (t : Option Text) → option_map read o ≡ t → o ≡ None → t ≡ None
+none_there read o t e none = sym e ∙ ap (option_map read) none
 
 -- ---- numbers
 

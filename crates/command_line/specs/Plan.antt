@@ -38,11 +38,14 @@ command_named name = record { top = record ((new_app name).top) { disable_help_f
 abbrev pub lab_command : Shape
 lab_command = (with_rule (with_rule (command_named (codes "lab")) (required_option (codes "secret"))) admin_rule).top
 
+-- the words of `serve` that have to be given
+abbrev pub serve_options : App
+serve_options = with_rule (with_rule (with_rule (with_rule (command_named (codes "serve"))
+    (required_option (codes "secret"))) (required_option (codes "file"))) (required_option (codes "port"))) (required_option (codes "conns"))
+
 -- `serve --secret S --file F --port P --conns N [--at-once K] [--cache MB] [ADMIN]...`
 abbrev pub serve_command : Shape
-serve_command = (with_rule (with_rule (with_rule (with_rule (with_rule (with_rule (with_rule (command_named (codes "serve"))
-    (required_option (codes "secret"))) (required_option (codes "file"))) (required_option (codes "port"))) (required_option (codes "conns"))) (optional_option (codes "at-once")))
-    (optional_option (codes "cache"))) admin_rule).top
+serve_command = (with_rule (with_rule (with_rule serve_options (optional_option (codes "at-once"))) (optional_option (codes "cache"))) admin_rule).top
 
 -- the words of `sync` that have to be given
 abbrev pub sync_options : App

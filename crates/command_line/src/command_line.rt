@@ -6,11 +6,10 @@ ghost use Rattle.std.specs.Char.{is_ascii_digit};
 ghost use Rattle.std.specs.List.{list_all};
 ghost use Rattle.clap.specs.declared.builder.command.Command.TheViews.{out-Command as fields_of};
 ghost use Rattle.clap.specs.Words.{all_of, app_of, fault_of, first_of, found_of, kind_of, rows_of, rule_of, shape_of, subcommand_of, subcommand_rows_of};
-ghost use Rattle.clap.specs.Words.{with_rule};
 ghost use Rattle.command_line.specs.Plan.{admin_rule, answering_commands, asked_at, asked_by, command_of, bare_command, command_named, couchd_command};
 ghost use Rattle.command_line.specs.Plan.{are_apart, can_be_made, check_asked_by, check_command, flag, is_file, is_given, is_header_byte, is_numeral};
 ghost use Rattle.command_line.specs.Plan.{lab_asked_by, lab_command, number_between, number_or, optional_option, port_in, required_option, serve_asked_by};
-ghost use Rattle.command_line.specs.Plan.{serve_command, side_in, side_of, sync_asked_by, sync_command, sync_of, sync_options, sync_sides, user_in};
+ghost use Rattle.command_line.specs.Plan.{serve_command, serve_options, side_in, side_of, sync_asked_by, sync_command, sync_of, sync_options, sync_sides, user_in};
 
 use crate::plans::{Plan, PlanFault, SyncPlan, SyncSide};
 use clap::error::ErrorKind;
@@ -94,9 +93,9 @@ fn lab_command<'a>(alloc: Global) -> Result<Command<'a>, AllocError>
     ensures shape { IfOk result (λ command. shape_of command ≡ lab_command) }
     ensures local { IfOk result (λ command. (fields_of command).has_globals ≡ false) }
 {
-    let lab = plain_command(alloc, "lab");
-    let lab = add_required_option(alloc, lab, "secret")?;
-    add_admins(alloc, lab)
+    plain_command(alloc, "lab")
+        .arg(required_option(alloc, "secret"))?
+        .arg(admin_words(alloc))
 }
 
 /// Returns the command `serve --secret S --file F --port P --conns N [--at-once K] [--cache MB]
@@ -105,14 +104,22 @@ fn serve_command<'a>(alloc: Global) -> Result<Command<'a>, AllocError>
     ensures shape { IfOk result (λ command. shape_of command ≡ serve_command) }
     ensures local { IfOk result (λ command. (fields_of command).has_globals ≡ false) }
 {
-    let serve = plain_command(alloc, "serve");
-    let serve = add_required_option(alloc, serve, "secret")?;
-    let serve = add_required_option(alloc, serve, "file")?;
-    let serve = add_required_option(alloc, serve, "port")?;
-    let serve = add_required_option(alloc, serve, "conns")?;
-    let serve = add_optional_option(alloc, serve, "at-once")?;
-    let serve = add_optional_option(alloc, serve, "cache")?;
-    add_admins(alloc, serve)
+    serve_options(alloc)?
+        .arg(optional_option(alloc, "at-once"))?
+        .arg(optional_option(alloc, "cache"))?
+        .arg(admin_words(alloc))
+}
+
+/// Returns the command `serve` with the options that have to be given.
+fn serve_options<'a>(alloc: Global) -> Result<Command<'a>, AllocError>
+    ensures app { IfOk result (λ command. app_of command ≡ serve_options) }
+    ensures local { IfOk result (λ command. (fields_of command).has_globals ≡ false) }
+{
+    plain_command(alloc, "serve")
+        .arg(required_option(alloc, "secret"))?
+        .arg(required_option(alloc, "file"))?
+        .arg(required_option(alloc, "port"))?
+        .arg(required_option(alloc, "conns"))
 }
 
 /// Returns the command `sync --secret S --session T [--from F | --from-address B] --db D [--to G |
@@ -122,11 +129,11 @@ fn sync_command<'a>(alloc: Global) -> Result<Command<'a>, AllocError>
     ensures shape { IfOk result (λ command. shape_of command ≡ sync_command) }
     ensures local { IfOk result (λ command. (fields_of command).has_globals ≡ false) }
 {
-    let sync = sync_sides(alloc)?;
-    let sync = add_optional_option(alloc, sync, "user")?;
-    let sync = add_flag(alloc, sync, "create")?;
-    let sync = add_optional_option(alloc, sync, "cache")?;
-    add_admins(alloc, sync)
+    sync_sides(alloc)?
+        .arg(optional_option(alloc, "user"))?
+        .arg(flag(alloc, "create"))?
+        .arg(optional_option(alloc, "cache"))?
+        .arg(admin_words(alloc))
 }
 
 /// Returns the command `sync` with the options that have to be given, and those for the places of its
@@ -135,11 +142,11 @@ fn sync_sides<'a>(alloc: Global) -> Result<Command<'a>, AllocError>
     ensures app { IfOk result (λ command. app_of command ≡ sync_sides) }
     ensures local { IfOk result (λ command. (fields_of command).has_globals ≡ false) }
 {
-    let sync = sync_options(alloc)?;
-    let sync = add_optional_option(alloc, sync, "from")?;
-    let sync = add_optional_option(alloc, sync, "from-address")?;
-    let sync = add_optional_option(alloc, sync, "to")?;
-    add_optional_option(alloc, sync, "address")
+    sync_options(alloc)?
+        .arg(optional_option(alloc, "from"))?
+        .arg(optional_option(alloc, "from-address"))?
+        .arg(optional_option(alloc, "to"))?
+        .arg(optional_option(alloc, "address"))
 }
 
 /// Returns the command `sync` with the options that have to be given.
@@ -147,11 +154,11 @@ fn sync_options<'a>(alloc: Global) -> Result<Command<'a>, AllocError>
     ensures app { IfOk result (λ command. app_of command ≡ sync_options) }
     ensures local { IfOk result (λ command. (fields_of command).has_globals ≡ false) }
 {
-    let sync = plain_command(alloc, "sync");
-    let sync = add_required_option(alloc, sync, "secret")?;
-    let sync = add_required_option(alloc, sync, "session")?;
-    let sync = add_required_option(alloc, sync, "db")?;
-    add_required_option(alloc, sync, "target-db")
+    plain_command(alloc, "sync")
+        .arg(required_option(alloc, "secret"))?
+        .arg(required_option(alloc, "session"))?
+        .arg(required_option(alloc, "db"))?
+        .arg(required_option(alloc, "target-db"))
 }
 
 /// Returns the command `check --file F [--cache MB]`.
@@ -159,9 +166,9 @@ fn check_command<'a>(alloc: Global) -> Result<Command<'a>, AllocError>
     ensures shape { IfOk result (λ command. shape_of command ≡ check_command) }
     ensures local { IfOk result (λ command. (fields_of command).has_globals ≡ false) }
 {
-    let check = plain_command(alloc, "check");
-    let check = add_required_option(alloc, check, "file")?;
-    add_optional_option(alloc, check, "cache")
+    plain_command(alloc, "check")
+        .arg(required_option(alloc, "file"))?
+        .arg(optional_option(alloc, "cache"))
 }
 
 /// Returns a command of this name without words, and without help.
@@ -170,50 +177,6 @@ fn plain_command<'a>(alloc: Global, name: &'a str) -> Command<'a>
     ensures local { (fields_of result).has_globals ≡ false }
 {
     Command::new(alloc, name).disable_help_flag(true)
-}
-
-/// Adds the argument `--NAME VALUE` to a command, which has to be given.
-fn add_required_option<'a>(
-    alloc: Global,
-    command: Command<'a>,
-    name: &'a str,
-) -> Result<Command<'a>, AllocError>
-    ensures app { IfOk result (λ after. app_of after ≡ with_rule (app_of command.entry) (required_option name.now)) }
-    ensures local { (fields_of command.entry).has_globals ≡ false → IfOk result (λ after. (fields_of after).has_globals ≡ false) }
-{
-    command.arg(required_option(alloc, name))
-}
-
-/// Adds the argument `--NAME VALUE` to a command, which may be given.
-fn add_optional_option<'a>(
-    alloc: Global,
-    command: Command<'a>,
-    name: &'a str,
-) -> Result<Command<'a>, AllocError>
-    ensures app { IfOk result (λ after. app_of after ≡ with_rule (app_of command.entry) (optional_option name.now)) }
-    ensures local { (fields_of command.entry).has_globals ≡ false → IfOk result (λ after. (fields_of after).has_globals ≡ false) }
-{
-    command.arg(optional_option(alloc, name))
-}
-
-/// Adds the argument `--NAME` to a command, which may be given, and has no value.
-fn add_flag<'a>(
-    alloc: Global,
-    command: Command<'a>,
-    name: &'a str,
-) -> Result<Command<'a>, AllocError>
-    ensures app { IfOk result (λ after. app_of after ≡ with_rule (app_of command.entry) (flag name.now)) }
-    ensures local { (fields_of command.entry).has_globals ≡ false → IfOk result (λ after. (fields_of after).has_globals ≡ false) }
-{
-    command.arg(flag(alloc, name))
-}
-
-/// Adds the argument `[ADMIN]...` to a command.
-fn add_admins<'a>(alloc: Global, command: Command<'a>) -> Result<Command<'a>, AllocError>
-    ensures app { IfOk result (λ after. app_of after ≡ with_rule (app_of command.entry) admin_rule) }
-    ensures local { (fields_of command.entry).has_globals ≡ false → IfOk result (λ after. (fields_of after).has_globals ≡ false) }
-{
-    command.arg(admin_words(alloc))
 }
 
 /// Returns the argument `--NAME VALUE`, which may be given.
@@ -411,11 +374,19 @@ fn choose_side(file: Option<String>, address: Option<String>) -> Result<SyncSide
     }
 }
 
+/// Returns the first value of an argument, where it has one.
+fn value_of<'a>(matches: &ArgMatches<'a>, name: &str) -> Option<&'a str>
+    ensures some { IfSome result (λ text. first_of name.now (rows_of (found_of matches.now)) ≡ Some text.now) }
+    ensures none { result ≡ None → first_of name.now (rows_of (found_of matches.now)) ≡ None }
+{
+    matches.get_str(name)
+}
+
 /// Tells whether an argument without a value was given.
 fn is_given(matches: &ArgMatches<'_>, name: &str) -> bool
     ensures { result ≡ is_given (first_of name.now (rows_of (found_of matches.now))) }
 {
-    match matches.get_str(name) {
+    match value_of(matches, name) {
         Some(text) => text == "true",
         None => false,
     }
@@ -429,7 +400,7 @@ fn option_at(
 ) -> Result<Option<String>, AllocError>
     ensures { IfOk result (λ text. first_of name.now (rows_of (found_of matches.now)) ≡ option_map string_bytes text) }
 {
-    match matches.get_str(name) {
+    match value_of(matches, name) {
         Some(text) => Ok(Some(String::from_str(alloc, text)?)),
         None => Ok(None),
     }
@@ -458,7 +429,7 @@ fn text_at(alloc: Global, matches: &ArgMatches<'_>, name: &str) -> Result<String
     ensures ok { IfOk result (λ text. first_of name.now (rows_of (found_of matches.now)) ≡ Some (string_bytes text)) }
     ensures usage { result ≡ Err PlanFault.Usage → first_of name.now (rows_of (found_of matches.now)) ≡ None }
 {
-    let Some(text) = matches.get_str(name) else {
+    let Some(text) = value_of(matches, name) else {
         return Err(PlanFault::Usage);
     };
     let text = String::from_str(alloc, text)?;
@@ -480,12 +451,9 @@ fn number_or(matches: &ArgMatches<'_>, name: &str, absent: u32, most: u32) -> Re
     ensures ok { IfOk result (λ number. number_or absent most (first_of name.now (rows_of (found_of matches.now))) ≡ Some number) }
     ensures usage { IfErr result (λ _. number_or absent most (first_of name.now (rows_of (found_of matches.now))) ≡ None) }
 {
-    let Some(text) = matches.get_str(name) else {
-        return Ok(absent);
-    };
-    match read_number(text, 1, most) {
-        Some(number) => Ok(number),
-        None => Err(PlanFault::Usage),
+    match value_of(matches, name) {
+        Some(text) => number_in(text, 1, most),
+        None => Ok(absent),
     }
 }
 
@@ -495,9 +463,18 @@ fn number_at(matches: &ArgMatches<'_>, name: &str, least: u32, most: u32) -> Res
     ensures usage { IfErr result (λ _. option_and_then (number_between least most) (first_of name.now (rows_of (found_of matches.now))) ≡ None) }
     ensures most { IfOk result (λ number. number ≤ most) }
 {
-    let Some(text) = matches.get_str(name) else {
-        return Err(PlanFault::Usage);
-    };
+    match value_of(matches, name) {
+        Some(text) => number_in(text, least, most),
+        None => Err(PlanFault::Usage),
+    }
+}
+
+/// Returns the number between two others that a text writes.
+fn number_in(text: &str, least: u32, most: u32) -> Result<u32, PlanFault>
+    ensures ok { IfOk result (λ number. number_between least most text.now ≡ Some number) }
+    ensures usage { IfErr result (λ _. number_between least most text.now ≡ None) }
+    ensures most { IfOk result (λ number. number ≤ most) }
+{
     match read_number(text, least, most) {
         Some(number) => Ok(number),
         None => Err(PlanFault::Usage),
