@@ -9,7 +9,6 @@ pub mod RowForms
 pub mod RevisionForms
 pub mod Leaves
 pub mod Found
-pub mod HistoryMade
 pub mod ShownRevisions
 pub mod Owned
 pub mod Walked

@@ -4,7 +4,7 @@ use Rattle.std.specs.Prelude.{int_le, ⊤}
 use Rattle.tables.proofs.Sorted.{both_in}
 use Rattle.tables.specs.Shown.{IsShownRevision}
 use Rattle.transactions.specs.Reading.{history_shown}
-use Rattle.file_check.proofs.HistoryMade.{AreApart, history_made}
+use Rattle.transactions.proofs.HistoryRows.{AreApart, history_apart}
 use Rattle.file_check.proofs.ShownRevisions.{rows_intact}
 use Rattle.file_check.specs.inner.Rows.{IsLawfulDocument, IsLawfulLocal, IsOwnedDocument, IsWinning}
 use Rattle.file_check.specs.Tables.{AreShaped, HasDatabaseCells, HasDocumentCells, HasHeldLeaves, HasLocalCells, IsShaped, IsSoundDocument, stored_revision}
@@ -54,7 +54,7 @@ document_of_database : (trees : Trees) (r : Row) (length : Option ℤ) (rows : L
     → IsPermutation (map shown_revision (filter (is_row_of_document (db_of r) (id_of r)) (trees revs_tree))) rows → IsLawfulDocument r → IsOwnedDocument r length (history_shown rows) → IsSoundDocument trees r
 document_of_database trees r length rows is apart same lawful k =
     let h = history_in_rows (trees revs_tree) (db_of r) (id_of r) in
-    let made : history_shown rows ≡ h = history_made trees (db_of r) (id_of r) rows apart same in
+    let made : history_shown rows ≡ h = history_apart trees (db_of r) (id_of r) rows apart same in
     let winning : IsWinning h (winner_text r) (is_gone_row r) = subst (λ (x : HistoryContent). IsWinning x (winner_text r) (is_gone_row r)) made k.winning in
     record {
       row = record {
@@ -106,7 +106,7 @@ module _ (trees : Trees) (r : Row) (length : Option ℤ) (is : length ≡ length
   owned_where_sound : (rows : List Row) → AreApart (trees revs_tree) → IsPermutation (map shown_revision (filter (is_row_of_document (db_of r) (id_of r)) (trees revs_tree))) rows → IsOwnedDocument r length (history_shown rows)
   owned_where_sound rows apart same =
       let h = history_in_rows (trees revs_tree) (db_of r) (id_of r) in
-      let made : h ≡ history_shown rows = sym (history_made trees (db_of r) (id_of r) rows apart same) in
+      let made : h ≡ history_shown rows = sym (history_apart trees (db_of r) (id_of r) rows apart same) in
       let own : IsWinning h (winner_text r) (is_gone_row r) = record { won = k.row.won; marked = k.row.gone } in
       record {
         within = within_its;
