@@ -7,7 +7,9 @@ use Rattle.index.proofs.Spots.{at_in}
 use Rattle.store.proofs.Listings.{In}
 use Rattle.sqlite_catalog.specs.Listing.{IsSound}
 use Rattle.sqlite_schema.specs.Rules.{agree, are_present, are_typed, clashes, differ, equal, is_of, passes}
+use Rattle.sqlite_schema.specs.declared.schema.Constraint.{Constraint}
 use Rattle.sqlite_schema.specs.declared.schema.Constraint.TheVariants.{Datatype, NotNull, Unique}
+use Rattle.sqlite_schema.specs.declared.schema.Table.{Table}
 use Rattle.sqlite_schema.specs.declared.schema.Kind.TheVariants as kind
 use Rattle.sqlite_sql.specs.declared.ops.CompareOp.TheVariants.{Ne}
 use Rattle.sqlite_sql.specs.Ops.{is_null}
@@ -121,58 +123,63 @@ unclashed : (x : Bool) → (not x && true) ≡ true → x ≡ false
 unclashed true h = absurd (cc)
 unclashed false h = refl
 
+-- two rows with one number and one text of bytes have another second text, where the columns of the three are a key
+module _ (P : Row → Type 0) (x y z : ℕ) (home : Row → ℤ) (one two : Row → List ℕ) (cells : (r : Row) → P r → (rowid r ≡ Int (number_of r)) × (column r x ≡ Int (home r)) × (column r y ≡ Blob (one r)) × (column r z ≡ Blob (two r))) where
+  key_apart : (a b : Row) → P a → P b → number_of a <ℤ number_of b → (agree plain (x ∷ y ∷ z ∷ []) a (x ∷ y ∷ z ∷ []) b && differ (rowid a) (rowid b)) ≡ false → home a ≡ home b → one a ≡ one b → two a ≢ two b
+  key_apart a b k l below none same_home same_one same_two =
+      let p = cells a k in
+      let q = cells b l in
+      let same : agree plain (x ∷ y ∷ z ∷ []) a (x ∷ y ∷ z ∷ []) b ≡ true =
+      and_from _ _ (ints_equal (column a x) (column b x) (home a) (home b) p.1 q.1 same_home)
+      (and_from _ _ (blobs_equal (column a y) (column b y) (one a) (one b) p.2 q.2 same_one) (and_from _ _ (blobs_equal (column a z) (column b z) (two a) (two b) p.3 q.3 same_two) refl)) in
+      let clash = and_from _ _ same (numbers_differ a b p.0 q.0 below) in
+      cc
+
 entry_apart : (a b : Row) → IsEntryRow a → IsEntryRow b → number_of a <ℤ number_of b → (agree plain (1 ∷ 2 ∷ 3 ∷ []) a (1 ∷ 2 ∷ 3 ∷ []) b && differ (rowid a) (rowid b)) ≡ false
     → declaration_of a ≡ declaration_of b → key_of a ≡ key_of b → entry_id a ≢ entry_id b
-entry_apart a b k l below none d key id =
-    let same : agree plain (1 ∷ 2 ∷ 3 ∷ []) a (1 ∷ 2 ∷ 3 ∷ []) b ≡ true =
-    and_from _ _ (ints_equal (column a 1) (column b 1) (declaration_of a) (declaration_of b) (ap (λ x. column x 1) k) (ap (λ x. column x 1) l) d)
-    (and_from _ _ (blobs_equal (column a 2) (column b 2) (key_of a) (key_of b) (ap (λ x. column x 2) k) (ap (λ x. column x 2) l) key)
-    (and_from _ _ (blobs_equal (column a 3) (column b 3) (entry_id a) (entry_id b) (ap (λ x. column x 3) k) (ap (λ x. column x 3) l) id) refl)) in
-    let clash = and_from _ _ same (numbers_differ a b (ap rowid k) (ap rowid l) below) in
-    cc
+entry_apart = key_apart IsEntryRow 1 2 3 declaration_of key_of entry_id (λ r k. (ap rowid k, ap (λ x. column x 1) k, ap (λ x. column x 2) k, ap (λ x. column x 3) k))
 
 declaration_apart : (a b : Row) → HasDeclarationCells a → HasDeclarationCells b → number_of a <ℤ number_of b → (agree plain (2 ∷ 3 ∷ 4 ∷ []) a (2 ∷ 3 ∷ 4 ∷ []) b && differ (rowid a) (rowid b)) ≡ false
     → database_of_declaration a ≡ database_of_declaration b → design_of a ≡ design_of b → index_name_of_row a ≢ index_name_of_row b
-declaration_apart a b k l below none home design name =
-    let same : agree plain (2 ∷ 3 ∷ 4 ∷ []) a (2 ∷ 3 ∷ 4 ∷ []) b ≡ true =
-    and_from _ _ (ints_equal (column a 2) (column b 2) (database_of_declaration a) (database_of_declaration b) (ap (λ x. column x 2) k) (ap (λ x. column x 2) l) home)
-    (and_from _ _ (blobs_equal (column a 3) (column b 3) (design_of a) (design_of b) (ap (λ x. column x 3) k) (ap (λ x. column x 3) l) design)
-    (and_from _ _ (blobs_equal (column a 4) (column b 4) (index_name_of_row a) (index_name_of_row b) (ap (λ x. column x 4) k) (ap (λ x. column x 4) l) name) refl)) in
-    let clash = and_from _ _ same (numbers_differ a b (ap rowid k) (ap rowid l) below) in
-    cc
+declaration_apart = key_apart HasDeclarationCells 2 3 4 database_of_declaration design_of index_name_of_row (λ r k. (ap rowid k, ap (λ x. column x 2) k, ap (λ x. column x 3) k, ap (λ x. column x 4) k))
 
 -- ---- what the schema asks of the rows
 
+-- rows that pass the tests of their kinds, of the columns that are never NULL, and of a unique key
+module _ (Is : Row → Type 0) {R : Row → Row → Type 0} (keys : List ℕ) (typed there unique : Row → Bool) (shaped : (r : Row) → rowid r ≡ Int (number_of r) → typed r ≡ true → there r ≡ true → Is r)
+    (apart : (a b : Row) → Is a → Is b → number_of a <ℤ number_of b → (agree plain keys a keys b && differ (rowid a) (rowid b)) ≡ false → R a b) (rows : List Row) (n : AreNumbered rows) where
+  rows_shaped : AllByRecursion (λ r. typed r ≡ true) rows → AllByRecursion (λ r. there r ≡ true) rows → AllByRecursion Is rows
+  rows_shaped kinds present =
+      all_both (λ r. rowid r ≡ Int (number_of r)) (λ r. (typed r ≡ true) × (there r ≡ true)) Is (λ r k h. shaped r k h.0 h.1) rows n.numbers
+      (all_both (λ r. typed r ≡ true) (λ r. there r ≡ true) (λ r. (typed r ≡ true) × (there r ≡ true)) (λ r x y. (x, y)) rows kinds present)
+
+  -- each is so, and no two have one key
+  keyed_rows : ((r : Row) → unique r ≡ true → (not (clashes plain keys rows r) && true) ≡ true) → AllByRecursion (λ r. typed r ≡ true) rows → AllByRecursion (λ r. there r ≡ true) rows → AllByRecursion (λ r. unique r ≡ true) rows
+      → AllByRecursion Is rows × IsAscending R rows
+  keyed_rows clashing kinds present uniques =
+      let each = rows_shaped kinds present in (
+        each,
+        rows_apart Is R (λ b a. agree plain keys a keys b && differ (rowid a) (rowid b)) apart rows rows (λ x i. i) each n.rising
+            (all_weaker (λ r. unique r ≡ true) (λ r. clashes plain keys rows r ≡ false) (λ r h. unclashed (clashes plain keys rows r) (clashing r h)) rows uniques),
+      )
+
 module _ (db : Database) (has : db.schema ≡ schema) (sound : IsSound schema db.trees) where
+  abbrev passing : Constraint → Table → Row → Bool
+  passing rule table r = passes rule schema db.trees table r
+
   entry_rows : AreNumbered (db.trees entries_tree) → AreEntryRows (db.trees entries_tree)
   entry_rows n =
-      let rows = db.trees entries_tree in
-      let typed = (sound.obeys.rules Datatype).1.1.1.1.1.1.0 in
-      let there = (sound.obeys.rules NotNull).1.1.1.1.1.1.0 in
-      let each = all_both (λ r. rowid r ≡ Int (number_of r)) (λ r. (passes Datatype schema db.trees entries_table r ≡ true) × (passes NotNull schema db.trees entries_table r ≡ true)) IsEntryRow
-      (λ r k h. entry_shaped r k (and_parts _ _ h.0).0 h.1) rows n.numbers
-      (all_both _ _ (λ r. (passes Datatype schema db.trees entries_table r ≡ true) × (passes NotNull schema db.trees entries_table r ≡ true)) (λ r x y. (x, y)) rows typed there) in
-      record {
-        each = each;
-        rising = n.rising;
-        apart = rows_apart IsEntryRow _ (λ b a. agree plain (1 ∷ 2 ∷ 3 ∷ []) a (1 ∷ 2 ∷ 3 ∷ []) b && differ (rowid a) (rowid b)) entry_apart rows rows (λ x i. i) each n.rising
-            (all_weaker (λ r. passes Unique schema db.trees entries_table r ≡ true) (λ r. clashes plain (1 ∷ 2 ∷ 3 ∷ []) rows r ≡ false) (λ r h. unclashed (clashes plain (1 ∷ 2 ∷ 3 ∷ []) rows r) h) rows (sound.obeys.rules Unique).1.1.1.1.1.1.0);
-      }
+      let found =
+      keyed_rows IsEntryRow (1 ∷ 2 ∷ 3 ∷ []) (passing Datatype entries_table) (passing NotNull entries_table) (passing Unique entries_table) (λ r k t p. entry_shaped r k (and_parts _ _ t).0 p) entry_apart (db.trees entries_tree) n
+      (λ r h. h) (sound.obeys.rules Datatype).1.1.1.1.1.1.0 (sound.obeys.rules NotNull).1.1.1.1.1.1.0 (sound.obeys.rules Unique).1.1.1.1.1.1.0 in
+      record { each = found.0; rising = n.rising; apart = found.1 }
 
   declaration_rows : AreNumbered (db.trees decls_tree) → AreDeclarationCells (db.trees decls_tree)
   declaration_rows n =
-      let rows = db.trees decls_tree in
-      let typed = (sound.obeys.rules Datatype).1.1.1.1.1.0 in
-      let there = (sound.obeys.rules NotNull).1.1.1.1.1.0 in
-      let each = all_both (λ r. rowid r ≡ Int (number_of r)) (λ r. (passes Datatype schema db.trees decls_table r ≡ true) × (passes NotNull schema db.trees decls_table r ≡ true)) HasDeclarationCells
-      (λ r k h. declaration_shaped r k (and_parts _ _ h.0).0 h.1) rows n.numbers
-      (all_both _ _ (λ r. (passes Datatype schema db.trees decls_table r ≡ true) × (passes NotNull schema db.trees decls_table r ≡ true)) (λ r x y. (x, y)) rows typed there) in
-      record {
-        each = each;
-        rising = n.rising;
-        apart = rows_apart HasDeclarationCells _ (λ b a. agree plain (2 ∷ 3 ∷ 4 ∷ []) a (2 ∷ 3 ∷ 4 ∷ []) b && differ (rowid a) (rowid b)) declaration_apart rows rows (λ x i. i) each n.rising
-            (all_weaker (λ r. passes Unique schema db.trees decls_table r ≡ true) (λ r. clashes plain (2 ∷ 3 ∷ 4 ∷ []) rows r ≡ false) (λ r h. unclashed (clashes plain (2 ∷ 3 ∷ 4 ∷ []) rows r) h) rows (sound.obeys.rules Unique).1.1.1.1.1.0);
-      }
+      let found =
+      keyed_rows HasDeclarationCells (2 ∷ 3 ∷ 4 ∷ []) (passing Datatype decls_table) (passing NotNull decls_table) (passing Unique decls_table) (λ r k t p. declaration_shaped r k (and_parts _ _ t).0 p) declaration_apart (db.trees decls_tree) n
+      (λ r h. h) (sound.obeys.rules Datatype).1.1.1.1.1.0 (sound.obeys.rules NotNull).1.1.1.1.1.0 (sound.obeys.rules Unique).1.1.1.1.1.0 in
+      record { each = found.0; rising = n.rising; apart = found.1 }
 
   pub index_cells : AreNumbered (db.trees decls_tree) → AreNumbered (db.trees entries_tree) → HasIndexCells db
   index_cells decls entries = record { schema_is = has; decls = declaration_rows decls; entries = entry_rows entries }
