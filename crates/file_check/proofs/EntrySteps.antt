@@ -6,10 +6,14 @@ use Rattle.sqlite.specs.Held.{Held, state}
 use Rattle.sqlite_trees.specs.Tree.{Trees}
 use Rattle.sqlite_trees.specs.declared.store.Store.{Ghosts}
 use Rattle.sqlite_value.specs.Order.{Row}
-use Rattle.file_check.proofs.CheckSteps.{checks_then, checks_weaker}
+use Rattle.index.specs.Layout.{HasIndexRows}
+use Rattle.tables.specs.Layout.{IsStore}
+use Rattle.file_check.proofs.CheckSteps.{checks_so, checks_then, checks_weaker}
 use Rattle.file_check.proofs.FoundRows.{first_shown}
 use Rattle.file_check.proofs.WalkedRows.{shown_there}
 use Rattle.file_check.specs.Checks.{Checks}
+use Rattle.file_check.specs.Indexes.{IsAnswer, IsOwnEntry}
+use Rattle.file_check.specs.inner.IndexRows.{IsEntryUnder}
 
 module _ {S : Type 0} (g : Ghosts S) where
   -- a step behind a check fails
@@ -33,3 +37,11 @@ module _ {S : Type 0} (g : Ghosts S) where
       checks_then g F F' {A = λ trees x. items x ≡ map show (filter p (trees tree))} {B = B} {C = B} first next
       (λ fit is. let found = shown_there show (find p rows) row (sym (ap (λ l. slice_get l 0) is ∙ first_shown p show rows) ∙ at) in fits fit found.0 found.1)
       (λ fit is y h. h)
+
+  -- what is told of an entry, where its index was looked for and its document was read
+  pub entry_told : {X Y E E' D : Type 0} (index d shown e : Row) {A : Trees → X → Type 0} {B : Trees → Y → Type 0} {a b c : Held S} {x : X} {y : Y} {is : Bool} → Checks {E = E} g HasIndexRows a b A (Ok x) → Checks {E = E'} g IsStore b c B (Ok y)
+      → (IsEntryUnder index d shown e (state g a).now → A (state g a).now.trees x × B (state g a).now.trees y → IsAnswer (IsOwnEntry (state g a).now.trees e) is)
+      → Checks {E = D} g (IsEntryUnder index d shown e) a c (λ trees is. IsAnswer (IsOwnEntry trees e) is) (Ok is)
+  entry_told index d shown e p q tells =
+      let F = IsEntryUnder index d shown e in
+      checks_so g F F (λ trees is. IsAnswer (IsOwnEntry trees e) is) (checks_both F HasIndexRows IsStore p q (λ fit. fit.entry.ready.rows) (λ fit. fit.entry.ready.store)) (λ fit. fit) tells

@@ -11,7 +11,7 @@ use Rattle.index.specs.Rebuilding.{names_of}
 use Rattle.index.specs.Shown.{Declared}
 use Rattle.index.specs.declared.declaration.Declaration.{Declaration}
 use Rattle.policy.specs.DesignDocuments.{is_index_object}
-use Rattle.std.proofs.Common.{zero, Equal, Greater, Less, Ordering, codes, is_eq}
+use Rattle.std.proofs.Common.{Err, Ok, Result, ◌≤◌, zero, Equal, Greater, Less, Ordering, codes, is_eq}
 use Rattle.std.proofs.lemmas.Map.Text.{is_eq-slice_cmp}
 use Rattle.std.specs.Cmp.Lexicographic.{slice_cmp}
 use Rattle.std.specs.Ordering.{match_ordering, nat_cmp}
@@ -21,14 +21,21 @@ use Rattle.store.proofs.Listings.{In}
 use Rattle.store.proofs.Winnings.{fields_alone, queried_alone}
 use Rattle.store.specs.Winning.{winner_alone}
 use Rattle.store.specs.Indexes.{declared_fields, fields_in, index_fields_of, queried_document, winning_body, indexes_if}
+use Rattle.sqlite.specs.Held.{Held, state}
+use Rattle.sqlite_trees.specs.declared.store.Store.{Ghosts}
+use Rattle.tables.specs.Layout.{IsStore}
 use Rattle.tables.specs.Rows.{db_of, history_in_rows, id_of}
 use Rattle.tables.specs.Schema.{revs_tree}
 use Rattle.tree.proofs.Shown.{inside}
 use Rattle.tree.specs.DocumentId.{is_design_id}
 use Rattle.tree.specs.History.{HistoryContent}
 use Rattle.file_check.proofs.DeclaredRows.{answer_as}
-use Rattle.file_check.proofs.EachAsked.{of_next}
-use Rattle.file_check.specs.inner.IndexRows.{AreShownIndexes, IsShownIndex, shown_index}
+use Rattle.file_check.proofs.CheckSteps.{checks_so, checks_then, checks_weaker}
+use Rattle.file_check.proofs.EachAsked.{SoFar, each_ends, each_fails, each_goes_on, each_refuted, of_next}
+use Rattle.file_check.specs.Checks.{Checks}
+use Rattle.file_check.specs.declared.finding.CheckFault.{CheckFault}
+use Rattle.file_check.specs.declared.indexes.indexed.Indexed.TheVariants.{Documents}
+use Rattle.file_check.specs.inner.IndexRows.{AreShownIndexes, IsNextRow, IsShownIndex, shown_index}
 use Rattle.file_check.specs.Indexes.{HasItsKey, HaveItsKeys, HaveRows, IsAnswer, IsIndexedDocument, IsReadable}
 
 -- ---- one document
@@ -71,6 +78,19 @@ module _ (trees : Trees) (d : Row) where
       (subst (λ n. IsAnswer (HaveItsKeys n (id_of d) (queried_document (id_of d) (history_in_rows (trees revs_tree) n (id_of d))) trees) b) numbered
       (subst (λ i. IsAnswer (HaveItsKeys db i (queried_document i (history_in_rows (trees revs_tree) db i)) trees) b) named
       (subst (λ o. IsAnswer (HaveItsKeys db id o trees) b) (ap (queried_document id) is ∙ queried_alone (history_in_rows (trees revs_tree) db id) id) told)))
+
+-- what a part of the check tells of a document that was read, the check of its row tells too
+module _ {S : Type 0} (g : Ghosts S) (shown r : Row) (db : ℤ) (id : List ℕ) (h : HistoryContent) {a b c : Held S} (read : Checks {E = CheckFault} g IsStore a b (λ trees k. k ≡ winner_alone (history_in_rows (trees revs_tree) db id)) (Ok h))
+    (numbered : (m : ℤ) → column shown 1 ≡ Int m → db ≡ m) (named : (i : List ℕ) → column shown 2 ≡ Blob i → id ≡ i) where
+  pub document_told : (Told : Trees → Bool → Type 0) {told : Result Bool CheckFault} → Checks g IsReadable b c Told told
+      → ((trees : Trees) (is : Bool) → h ≡ winner_alone (history_in_rows (trees revs_tree) db id) → db ≡ db_of r → id ≡ id_of r → Told trees is → IsAnswer (IsIndexedDocument trees r) is)
+      → Checks g (IsNextRow Documents shown r) a c (λ trees is. IsAnswer (IsIndexedDocument trees r) is) told
+  document_told Told rest tells =
+      let F = IsNextRow Documents shown r in
+      checks_then g F IsReadable {A = λ trees k. k ≡ winner_alone (history_in_rows (trees revs_tree) db id)} {B = Told} {C = λ trees is. IsAnswer (IsIndexedDocument trees r) is}
+      (checks_weaker g F IsStore read (λ fit. fit.ready.store) (λ fit k is. is)) rest (λ fit is. fit.ready)
+      (λ fit is b told.
+      tells (state g a).now.trees b is (numbered (db_of r) (ap (λ x. column x 1) fit.shown_is ∙ ap (λ x. column x 1) fit.row.is)) (named (id_of r) (ap (λ x. column x 2) fit.shown_is ∙ ap (λ x. column x 2) fit.row.is)) told)
 
 -- ---- the names that a design document declares
 
@@ -168,7 +188,7 @@ shown_found db fit s r there shown n design name home designed named o is =
 -- ---- the rows of several names
 
 -- what is found of an index tells whether it has a row
-pub told_found : (p : Row → Bool) (rows : List Row) (o : Option Declaration) → option_map declared o ≡ option_map declared_at (find p rows) → is_none o ≡ false → list_any p rows ≡ true
+told_found : (p : Row → Bool) (rows : List Row) (o : Option Declaration) → option_map declared o ≡ option_map declared_at (find p rows) → is_none o ≡ false → list_any p rows ≡ true
 told_found p rows None is some = absurd (cc)
 told_found p [] (Some d) is some = absurd (cc)
 told_found p (r ∷ rows) (Some d) is some = go (p r) is (λ more. told_found p rows (Some d) more some)
@@ -177,7 +197,7 @@ told_found p (r ∷ rows) (Some d) is some = go (p r) is (λ more. told_found p 
     go true at more = refl
     go false at more = more at
 
-pub told_missing : (p : Row → Bool) (rows : List Row) (o : Option Declaration) → option_map declared o ≡ option_map declared_at (find p rows) → is_none o ≡ true → ¬ (list_any p rows ≡ true)
+told_missing : (p : Row → Bool) (rows : List Row) (o : Option Declaration) → option_map declared o ≡ option_map declared_at (find p rows) → is_none o ≡ true → ¬ (list_any p rows ≡ true)
 told_missing p rows (Some d) is none = absurd (cc)
 told_missing p [] None is none = λ any. let never = any in cc
 told_missing p (r ∷ rows) None is none = go (p r) is (λ more. told_missing p rows None more none)
@@ -187,7 +207,7 @@ told_missing p (r ∷ rows) None is none = go (p r) is (λ more. told_missing p 
     go false at more = more at
 
 -- what holds of the names of members holds of the members
-pub of_names : (P : List ℕ → Type 0) (ms : List (String Global × Json)) (b : Bool) → IsAnswer (AllByRecursion (λ (m : String Global × Json). P (string_bytes m.0)) ms) b → IsAnswer (AllByRecursion P (names_of (members_view ms))) b
+of_names : (P : List ℕ → Type 0) (ms : List (String Global × Json)) (b : Bool) → IsAnswer (AllByRecursion (λ (m : String Global × Json). P (string_bytes m.0)) ms) b → IsAnswer (AllByRecursion P (names_of (members_view ms))) b
 of_names P ms b h = answer_as (AllByRecursion (λ (m : String Global × Json). P (string_bytes m.0)) ms) (AllByRecursion P (names_of (members_view ms))) b (to ms) (from ms) h
   where
     to : (es : List (String Global × Json)) → AllByRecursion (λ (m : String Global × Json). P (string_bytes m.0)) es → AllByRecursion P (names_of (members_view es))
@@ -197,6 +217,50 @@ of_names P ms b h = answer_as (AllByRecursion (λ (m : String Global × Json). P
     from : (es : List (String Global × Json)) → AllByRecursion P (names_of (members_view es)) → AllByRecursion (λ (m : String Global × Json). P (string_bytes m.0)) es
     from [] all = tt
     from (e ∷ es) all = (all.0, from es all.1)
+
+-- what is found of an index
+abbrev pub Finds : ℤ → List ℕ → List ℕ → Trees → Option Declaration → Type 0
+Finds db design name trees found = option_map declared found ≡ option_map declared_at (find (is_declaration_of db design name) (trees decls_tree))
+
+-- what is found of the index of the name of a member
+found_named : (db : ℤ) (design d n : List ℕ) (m : String Global × Json) → d ≡ design → n ≡ string_bytes m.0 → (trees : Trees) (found : Option Declaration) → Finds db d n trees found → Finds db design (string_bytes m.0) trees found
+found_named db design d n m of_design of_name trees found told = told ∙ (λ j. option_map declared_at (find (is_declaration_of db (of_design j) (of_name j)) (trees decls_tree)))
+
+-- the row of the index of the next name is looked for
+module _ {S : Type 0} (g : Ghosts S) (db : ℤ) (design : List ℕ) (ms : List (String Global × Json)) (i : ℕ) where
+  -- the index of the name of a member has a row
+  abbrev pub HasRow : Trees → String Global × Json → Type 0
+  HasRow trees m = list_any (is_declaration_of db design (string_bytes m.0)) (trees decls_tree) ≡ true
+
+  abbrev pub NamedSoFar : ℕ → Held S → Held S → Type 0
+  NamedSoFar n old new = SoFar g IsReadable HasRow ms n old new
+
+  -- each index of these names has one, or one has none
+  abbrev pub NamesTold : Members → Trees → Bool → Type 0
+  NamesTold names trees have = IsAnswer (AllByRecursion (λ name. list_any (is_declaration_of db design name) (trees decls_tree) ≡ true) (names_of names)) have
+
+  -- what all members have, all names have
+  told_of_names : {have : Bool} {old new : Held S} (entries : List (String Global × Json)) → ms ≡ entries → Checks {E = CheckFault} g IsReadable old new (λ trees is. IsAnswer (AllByRecursion (HasRow trees) ms) is) (Ok have) → Checks {E = CheckFault} g IsReadable old new (NamesTold (members_view entries)) (Ok have)
+  told_of_names {have = have} {old = old} entries same p =
+      checks_so g IsReadable IsReadable (NamesTold (members_view entries)) p (λ fit. fit)
+      (λ fit h. subst (λ l. NamesTold (members_view l) (state g old).now.trees have) same (of_names (λ name. list_any (is_declaration_of db design name) ((state g old).now.trees decls_tree) ≡ true) ms have h))
+
+  pub names_end : {a b : Held S} (entries : List (String Global × Json)) → ms ≡ entries → length ms ≤ i → NamedSoFar i a b → Checks {E = CheckFault} g IsReadable a b (NamesTold (members_view entries)) (Ok true)
+  names_end entries same none p = told_of_names entries same (each_ends g IsReadable HasRow ms i (λ fit. none) p)
+
+  module _ (m : String Global × Json) (next : drop i ms ≡ m ∷ drop (i + 1) ms) {d n : List ℕ} (of_design : d ≡ design) (of_name : n ≡ string_bytes m.0) {a b c : Held S} {found : Option Declaration} (so : NamedSoFar i a b) where
+    -- it has a row
+    pub name_goes_on : Checks {E = CheckFault} g HasIndexRows b c (Finds db d n) (Ok found) → is_none found ≡ false → NamedSoFar (i + 1) a c
+    name_goes_on read some =
+        each_goes_on g IsReadable HasRow ms i m HasIndexRows (Finds db d n) found so read (λ fit. fit.rows) (λ fit. next)
+        (λ fit told. told_found (is_declaration_of db design (string_bytes m.0)) ((state g a).now.trees decls_tree) found (found_named db design d n m of_design of_name (state g a).now.trees found told) some)
+
+    -- it has none
+    pub name_refuted : (entries : List (String Global × Json)) → ms ≡ entries → Checks {E = CheckFault} g HasIndexRows b c (Finds db d n) (Ok found) → is_none found ≡ true → Checks {E = CheckFault} g IsReadable a c (NamesTold (members_view entries)) (Ok false)
+    name_refuted entries same read none =
+        told_of_names entries same
+        (each_refuted g IsReadable HasRow ms i m HasIndexRows (Finds db d n) found so read (λ fit. fit.rows) (λ fit. next)
+        (λ fit told. told_missing (is_declaration_of db design (string_bytes m.0)) ((state g a).now.trees decls_tree) found (found_named db design d n m of_design of_name (state g a).now.trees found told) none))
 
 -- ---- the rows of several indexes
 
@@ -227,6 +291,36 @@ pub next_index : (rows decls : List Row) (i : ℕ) (s : Row) → drop i rows ≡
 next_index rows decls i s next db fit =
     let found = shown_next decls i s (drop (i + 1) rows) (sym (ap (drop i) fit.shown_is) ∙ next) in
     (found.0, record { readable = fit.readable; found = of_next (λ r. declaration_at (db.trees decls_tree) (number_of r) ≡ Some r) i (row_at decls i) decls (drop (i + 1) decls) found.0 fit.found; shown_is = found.1 })
+
+-- the next of the indexes that a query shows is asked for the entry of a document
+module _ {S : Type 0} (g : Ghosts S) (id : List ℕ) (seen : Value) (rows decls : List Row) (i : ℕ) (s : Row) where
+  abbrev Has : Trees → Row → Type 0
+  Has trees r = HasItsKey id (Some seen) trees r
+
+  abbrev pub IsSoFar : ℕ → Held S → Held S → Type 0
+  IsSoFar n old new = SoFar g (AreShownIndexes rows decls) Has decls n old new
+
+  abbrev pub AsksNext : Held S → Held S → Result Bool CheckFault → Type 0
+  AsksNext old new told = Checks g (IsShownIndex s (row_at decls i)) old new (λ trees has. IsAnswer (Has trees (row_at decls i)) has) told
+
+  module _ (next : drop i rows ≡ s ∷ drop (i + 1) rows) {a b c : Held S} where
+    -- it has it
+    pub key_goes_on : {v : Bool} → IsSoFar i a b → AsksNext b c (Ok v) → v ≡ true → IsSoFar (i + 1) a c
+    key_goes_on {v = v} p q is =
+        each_goes_on g (AreShownIndexes rows decls) Has decls i (row_at decls i) (IsShownIndex s (row_at decls i)) (λ trees has. IsAnswer (Has trees (row_at decls i)) has) v p q
+        (λ fit. (next_index rows decls i s next (state g a).now fit).1) (λ fit. (next_index rows decls i s next (state g a).now fit).0) (λ fit told. subst (IsAnswer (Has (state g a).now.trees (row_at decls i))) is told)
+
+    -- it has not
+    pub key_refuted : {v : Bool} → IsSoFar i a b → AsksNext b c (Ok v) → v ≡ false → Checks {E = CheckFault} g (AreShownIndexes rows decls) a c (λ trees have. IsAnswer (AllByRecursion (Has trees) decls) have) (Ok false)
+    key_refuted {v = v} p q is =
+        each_refuted g (AreShownIndexes rows decls) Has decls i (row_at decls i) (IsShownIndex s (row_at decls i)) (λ trees has. IsAnswer (Has trees (row_at decls i)) has) v p q
+        (λ fit. (next_index rows decls i s next (state g a).now fit).1) (λ fit. (next_index rows decls i s next (state g a).now fit).0) (λ fit told. subst (IsAnswer (Has (state g a).now.trees (row_at decls i))) is told)
+
+    -- it is not told
+    pub key_fails : (e : CheckFault) (r : Result Bool CheckFault) → r ≡ Err e → IsSoFar i a b → AsksNext b c (Err e) → Checks g (AreShownIndexes rows decls) a c (λ trees have. IsAnswer (AllByRecursion (Has trees) decls) have) r
+    key_fails e r is p q =
+        each_fails g (AreShownIndexes rows decls) Has decls i (row_at decls i) (IsShownIndex s (row_at decls i)) (λ trees has. IsAnswer (Has trees (row_at decls i)) has) e r is p q
+        (λ fit. (next_index rows decls i s next (state g a).now fit).1)
 
 -- what is shown of the indexes of a database
 pub home_indexes : (db : Database) → IsReadable db → (home : ℤ) (shown rows : List Row) → shown ≡ rows → rows ≡ map shown_index (filter (is_at_home home) (db.trees decls_tree)) → AreShownIndexes shown (filter (is_at_home home) (db.trees decls_tree)) db

@@ -21,6 +21,8 @@ pub mod WalkSteps
 pub mod TableWalks
 pub mod IndexRows
 pub mod IndexCells
+pub mod IndexedTables
+pub mod WalkStatements
 pub mod IndexStatements
 pub mod SpelledFields
 pub mod FoundRows

@@ -16,7 +16,7 @@ use Rattle.tables.specs.Rows.{history_in_rows, id_of, is_row_of_document}
 use Rattle.tables.specs.Schema.{docs_tree, revs_tree}
 use Rattle.tree.proofs.Shown.{inside}
 use Rattle.tree.specs.History.{HistoryContent}
-use Rattle.file_check.specs.inner.IndexRows.{shown_index}
+use Rattle.file_check.specs.inner.IndexRows.{IsEntryUnder, shown_index}
 use Rattle.file_check.specs.Indexes.{IsAnswer, IsOwnEntry}
 
 -- what is no id of a document is not seen
@@ -57,12 +57,12 @@ module _ (trees : Trees) (e : Row) where
     key_entry seen key b is at same = answered b (due_by (Some seen) is ∙ ap (λ o. is_key o (key_of e)) at ∙ sym same)
 
 -- what was read is what is seen
-pub seen_told : (trees : Trees) {o : Option Value} {h : HistoryContent} {n db : ℤ} {i id : List ℕ} → o ≡ queried_document i h → h ≡ winner_alone (history_in_rows (trees revs_tree) n i) → n ≡ db → i ≡ id → sees_in trees db id ≡ o
+seen_told : (trees : Trees) {o : Option Value} {h : HistoryContent} {n db : ℤ} {i id : List ℕ} → o ≡ queried_document i h → h ≡ winner_alone (history_in_rows (trees revs_tree) n i) → n ≡ db → i ≡ id → sees_in trees db id ≡ o
 seen_told trees {n = n} {i = i} says is numbered named =
     sym (says ∙ ap (queried_document i) is ∙ queried_alone (history_in_rows (trees revs_tree) n i) i ∙ (λ j. queried_document (named j) (history_in_rows (trees revs_tree) (numbered j) (named j))))
 
 -- what is found of the index of an entry is what the row of its declaration says
-pub index_says : (db : Database) → HasIndexRows db → (d e : Row) → declaration_at (db.trees decls_tree) (declaration_of e) ≡ Some d → (index : Row) → index ≡ shown_index d → {n : ℤ} {design name : List ℕ}
+index_says : (db : Database) → HasIndexRows db → (d e : Row) → declaration_at (db.trees decls_tree) (declaration_of e) ≡ Some d → (index : Row) → index ≡ shown_index d → {n : ℤ} {design name : List ℕ}
     → ((z : ℤ) → column index 0 ≡ Int z → n ≡ z) → ((b : List ℕ) → column index 1 ≡ Blob b → design ≡ b) → ((b : List ℕ) → column index 2 ≡ Blob b → name ≡ b)
     → (n ≡ database_of_declaration d) × (find (is_declaration_of n design name) (db.trees decls_tree) ≡ Some d)
 index_says db fit d e there index shown {n = n} {design = design} {name = name} number designed named =
@@ -75,10 +75,26 @@ index_says db fit d e there index shown {n = n} {design = design} {name = name} 
     (a, (λ j. find (is_declaration_of (a j) (b j) (c j)) decls) ∙ at)
 
 -- it is found
-pub index_there : (d : Row) {o : Option Declaration} {r : Option Row} → option_map declared o ≡ option_map declared_at r → r ≡ Some d → o ≡ None → ⊥
+index_there : (d : Row) {o : Option Declaration} {r : Option Row} → option_map declared o ≡ option_map declared_at r → r ≡ Some d → o ≡ None → ⊥
 index_there d says there none = let never = sym (ap (option_map declared) none) ∙ says ∙ ap (option_map declared_at) there in cc
 
 -- with these fields
-pub fields_told : (d : Row) {o : Option Declaration} {r : Option Row} {declaration : Declaration} → option_map declared o ≡ option_map declared_at r → r ≡ Some d → o ≡ Some declaration → declaration.fields.items ≡ fields_of d
+fields_told : (d : Row) {o : Option Declaration} {r : Option Row} {declaration : Declaration} → option_map declared o ≡ option_map declared_at r → r ≡ Some d → o ≡ Some declaration → declaration.fields.items ≡ fields_of d
 fields_told d {declaration = declaration} says there is =
     ap (λ x. x.fields) (inside (declared declaration) (declared_at d) (sym (ap (option_map declared) is) ∙ says ∙ ap (option_map declared_at) there))
+
+-- what was found of the index of an entry, and what was read of its document, is what is stored
+module _ (db : Database) (index d shown e : Row) (fit : IsEntryUnder index d shown e db) {n : ℤ} {design name : List ℕ}
+    (number : (z : ℤ) → column index 0 ≡ Int z → n ≡ z) (designed : (b : List ℕ) → column index 1 ≡ Blob b → design ≡ b) (named : (b : List ℕ) → column index 2 ≡ Blob b → name ≡ b) where
+  says : (n ≡ database_of_declaration d) × (find (is_declaration_of n design name) (db.trees decls_tree) ≡ Some d)
+  says = index_says db fit.entry.ready.rows d e fit.found index fit.index_is number designed named
+
+  pub entry_index : {o : Option Declaration} → option_map declared o ≡ option_map declared_at (find (is_declaration_of n design name) (db.trees decls_tree)) → o ≡ None → ⊥
+  entry_index told none = index_there d told says.1 none
+
+  pub entry_fields : {o : Option Declaration} {declaration : Declaration} → option_map declared o ≡ option_map declared_at (find (is_declaration_of n design name) (db.trees decls_tree)) → o ≡ Some declaration → declaration.fields.items ≡ fields_of d
+  entry_fields told there = fields_told d told says.1 there
+
+  pub entry_seen : {o : Option Value} {h : HistoryContent} {i : List ℕ} → o ≡ queried_document i h → h ≡ winner_alone (history_in_rows (db.trees revs_tree) n i) → ((b : List ℕ) → column shown 3 ≡ Blob b → i ≡ b)
+      → sees_in db.trees (database_of_declaration d) (entry_id e) ≡ o
+  entry_seen told is identified = seen_told db.trees told is says.0 (identified (entry_id e) (ap (λ x. column x 3) fit.entry.shown_is ∙ ap (λ x. column x 3) fit.entry.row))

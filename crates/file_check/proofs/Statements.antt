@@ -1,5 +1,5 @@
 -- What the statements of a check mean.
-use Rattle.tables.proofs.Common.{AllByRecursion, AreKeyed, Blob, IfOk, Int, IsKeyed, IsPermutation, List, None, Null, Option, Result, Row, Select, Shown, Some, State, Term, Text, [], all-filter, all_of, all_weaker, ap, bytes, codes, col, column, db_of, dbs_tree, docs_tree, eval_all, everything, filter, filter_all, has_number, holds, id_of, is_row_of_document, list_all, listed_document, lit, locals_tree, map, meta_tree, overlay, refl, revs_tree, rowid, schema, shown_revision, subst, sym, true, understood, whole_in_cell, ℕ, ℤ, ◌∙◌, ◌∷◌, ◌≡◌}
+use Rattle.tables.proofs.Common.{AllByRecursion, AreKeyed, Blob, IfOk, Int, IsKeyed, IsPermutation, List, None, Null, Option, Result, Row, Select, Shown, Some, State, Term, Text, [], all-filter, all_of, all_weaker, ap, bytes, codes, col, column, db_of, dbs_tree, docs_tree, eval_all, everything, filter, filter_all, has_number, holds, id_of, is_row_of_document, list_all, listed_document, lit, map, meta_tree, overlay, refl, revs_tree, rowid, schema, shown_revision, subst, sym, true, understood, whole_in_cell, ℕ, ℤ, ◌∙◌, ◌∷◌, ◌≡◌}
 use Rattle.std.specs.Prelude.{take}
 use Rattle.sqlite_sql.specs.declared.ops.CompareOp.TheVariants.{Eq}
 use Rattle.sqlite_typed.proofs.TestLemmas.{last_term, then_term}
@@ -11,10 +11,14 @@ use Rattle.tables.proofs.Queries.{first_program, program_on}
 use Rattle.tables.proofs.RevisionStatements.{revisions_are, revisions_text}
 use Rattle.tables.proofs.Tables.{one_numbered, one_of}
 use Rattle.tables.proofs.Writes.{IsCommand}
-use Rattle.file_check.specs.Tables.{HasDatabaseCells, HasDocumentCells, HasLocalCells, HasRevisionCells, HasVersionCells, IsShaped}
-use Rattle.file_check.specs.inner.Queries.{is_numbered, is_stored, shown_length, shown_numbered, shown_stored}
+use Rattle.file_check.specs.Tables.{HasDocumentCells, HasRevisionCells, HasVersionCells, IsShaped, tree_of}
+use Rattle.file_check.specs.inner.Queries.{HasCells, is_numbered, is_stored, shown_length, shown_numbered, shown_stored}
+use Rattle.file_check.specs.inner.Statements.{behind_statement, first_statement}
 use Rattle.file_check.specs.inner.Walks.{is_behind, next_rows}
-use Rattle.file_check.proofs.IndexStatements.{by_behind, number_order, one, walks_behind, walks_first}
+use Rattle.file_check.specs.declared.layout.checked.Checked.{Checked}
+use Rattle.file_check.specs.declared.layout.checked.Checked.TheVariants.{Databases, Documents, Locals, Revisions}
+use Rattle.file_check.proofs.Walked.{cells_of, numbered_rows}
+use Rattle.file_check.proofs.WalkStatements.{by_behind, number_order, one, walks_behind, walks_first}
 
 -- ---- the version
 
@@ -55,165 +59,83 @@ shown_whole show last rows all =
     let next = filter (is_behind last) rows in
     ap (take 1) (mapped_whole show next (all-filter (λ r. show r ≡ r) (is_behind last) rows all) ∙ sym (mapped_whole (λ r. r) next (all_of (λ r. r ≡ r) (λ r. refl) next)))
 
-abbrev database_headings : List (List ℕ)
-database_headings = codes "num" ∷ codes "NULL" ∷ codes "name" ∷ codes "sec" ∷ codes "seq" ∷ []
+-- the names of the columns that a walk shows of a table
+abbrev headings_of : Checked → List (List ℕ)
+headings_of Databases = codes "num" ∷ codes "NULL" ∷ codes "name" ∷ codes "sec" ∷ codes "seq" ∷ []
+headings_of Documents = codes "rowid" ∷ codes "db" ∷ codes "id" ∷ codes "seq" ∷ codes "winner" ∷ codes "del" ∷ []
+headings_of Revisions = codes "rowid" ∷ codes "db" ∷ codes "id" ∷ codes "n" ∷ codes "hash" ∷ codes "parent" ∷ codes "held" ∷ codes "del" ∷ codes "body" ∷ []
+headings_of Locals = codes "rowid" ∷ codes "db" ∷ codes "id" ∷ codes "n" ∷ codes "body" ∷ []
 
-abbrev database_columns : List Term
-database_columns = col 1 0 ∷ lit Null ∷ col 1 2 ∷ col 1 3 ∷ col 1 4 ∷ []
+-- the columns
+abbrev columns_of : Checked → List Term
+columns_of Databases = col 1 0 ∷ lit Null ∷ col 1 2 ∷ col 1 3 ∷ col 1 4 ∷ []
+columns_of Documents = col 1 0 ∷ col 1 1 ∷ col 1 2 ∷ col 1 3 ∷ col 1 4 ∷ col 1 5 ∷ []
+columns_of Revisions = col 1 0 ∷ col 1 1 ∷ col 1 2 ∷ col 1 3 ∷ col 1 4 ∷ col 1 5 ∷ col 1 6 ∷ col 1 7 ∷ col 1 8 ∷ []
+columns_of Locals = col 1 0 ∷ col 1 1 ∷ col 1 2 ∷ col 1 3 ∷ col 1 4 ∷ []
 
-abbrev pub first_database_text : List ℕ
-first_database_text = codes "SELECT num, NULL, name, sec, seq FROM dbs ORDER BY num LIMIT 1"
+-- what a walk shows of a row
+abbrev shown_of : Checked → Row → Row
+shown_of of r = eval_all (columns_of of) ([] ∷ r ∷ [])
 
-abbrev pub database_behind_text : List ℕ
-database_behind_text = codes "SELECT num, NULL, name, sec, seq FROM dbs WHERE num > ?1 ORDER BY num LIMIT 1"
+-- the statement shows the first row of a table that passes these tests
+abbrev Shows : List Term → Checked → List ℕ → Type 0
+Shows tests of text = IsCommand schema text (Select (first_program (tree_of of) tests (columns_of of) number_order one) (headings_of of))
 
-pub first_database_is : IsCommand schema first_database_text (Select (first_program dbs_tree [] database_columns number_order one) database_headings)
+-- each first statement does so with no test
+first_is : (of : Checked) → Shows [] of (first_statement of)
 unfolding understood everything
-first_database_is = record { is = refl; plain = (refl, refl); unlisted = refl }
+first_is Databases = record { is = refl; plain = (refl, refl); unlisted = refl }
+first_is Documents = record { is = refl; plain = (refl, refl); unlisted = refl }
+first_is Revisions = record { is = refl; plain = (refl, refl); unlisted = refl }
+first_is Locals = record { is = refl; plain = (refl, refl); unlisted = refl }
 
-pub database_behind_is : IsCommand schema database_behind_text (Select (first_program dbs_tree by_behind database_columns number_order one) database_headings)
+-- each other one does so with the test of the number
+behind_is : (of : Checked) → Shows by_behind of (behind_statement of)
 unfolding understood everything
-database_behind_is = record { is = refl; plain = (refl, refl); unlisted = refl }
+behind_is Databases = record { is = refl; plain = (refl, refl); unlisted = refl }
+behind_is Documents = record { is = refl; plain = (refl, refl); unlisted = refl }
+behind_is Revisions = record { is = refl; plain = (refl, refl); unlisted = refl }
+behind_is Locals = record { is = refl; plain = (refl, refl); unlisted = refl }
 
-abbrev database_shown : Row → Row
-database_shown x = column x 0 ∷ Null ∷ column x 2 ∷ column x 3 ∷ column x 4 ∷ []
+-- the parameters are not shown
+shows : (of : Checked) (params r : Row) → eval_all (columns_of of) (params ∷ r ∷ []) ≡ shown_of of r
+shows Databases params r = refl
+shows Documents params r = refl
+shows Revisions params r = refl
+shows Locals params r = refl
 
-whole_database : (rows : List Row) → AllByRecursion HasDatabaseCells rows → AllByRecursion (λ r. database_shown r ≡ r) rows
-whole_database = all_weaker HasDatabaseCells (λ r. database_shown r ≡ r) (λ r k. ap database_shown k ∙ sym k)
+-- a row is shown as it is
+whole : (of : Checked) (r : Row) → HasCells of r → shown_of of r ≡ r
+whole Databases r k = ap (shown_of Databases) k ∙ sym k
+whole Documents r k = ap (shown_of Documents) k ∙ sym k
+whole Revisions r k = ap (shown_of Revisions) k.is ∙ sym k.is
+whole Locals r k = ap (shown_of Locals) k ∙ sym k
 
-module _ {X E : Type 0} (old new : State) (fit : IsShaped old.now) where
-  pub lists_first_database : (r : Result X E) (items : X → List Row) → IfOk r (λ x. Shown first_database_text [] old new (items x)) → IfOk r (λ x. items x ≡ next_rows (λ y. y) None (old.now.trees dbs_tree))
-  lists_first_database r items h =
-      let rows = old.now.trees dbs_tree in
-      subst (λ l. IfOk r (λ x. items x ≡ l)) (shown_whole database_shown None rows (whole_database rows fit.shaped.dbs))
-      (walks_first old new fit.schema_is refl fit.shaped.kept.dbs first_database_is database_shown (λ x. refl) r items h)
+-- a text that is such a statement
+pub first_means : (of : Checked) (text : List ℕ) → text ≡ first_statement of → Shows [] of text
+first_means of text is = subst (Shows [] of) (sym is) (first_is of)
 
-  pub lists_database_behind : (last : ℤ) (r : Result X E) (items : X → List Row) → IfOk r (λ x. Shown database_behind_text (Int last ∷ []) old new (items x))
-      → IfOk r (λ x. items x ≡ next_rows (λ y. y) (Some last) (old.now.trees dbs_tree))
-  lists_database_behind last r items h =
-      let rows = old.now.trees dbs_tree in
-      subst (λ l. IfOk r (λ x. items x ≡ l)) (shown_whole database_shown (Some last) rows (whole_database rows fit.shaped.dbs))
-      (walks_behind old new fit.schema_is refl fit.shaped.kept.dbs database_behind_is last database_shown (λ x. refl) r items h)
+pub behind_means : (of : Checked) (text : List ℕ) → text ≡ behind_statement of → Shows by_behind of text
+behind_means of text is = subst (Shows by_behind of) (sym is) (behind_is of)
 
-abbrev document_headings : List (List ℕ)
-document_headings = codes "rowid" ∷ codes "db" ∷ codes "id" ∷ codes "seq" ∷ codes "winner" ∷ codes "del" ∷ []
+-- the rows that come next are shown as they are
+next_whole : (of : Checked) (old : State) → IsShaped old.now → (last : Option ℤ) → next_rows (shown_of of) last (old.now.trees (tree_of of)) ≡ next_rows (λ r. r) last (old.now.trees (tree_of of))
+next_whole of old fit last =
+    let rows = old.now.trees (tree_of of) in
+    shown_whole (shown_of of) last rows (all_weaker (HasCells of) (λ r. shown_of of r ≡ r) (whole of) rows (cells_of old.now.trees fit.shaped of))
 
-abbrev document_columns : List Term
-document_columns = col 1 0 ∷ col 1 1 ∷ col 1 2 ∷ col 1 3 ∷ col 1 4 ∷ col 1 5 ∷ []
+-- what it shows is the next row
+module _ {X E : Type 0} (of : Checked) {text : List ℕ} (old new : State) (fit : IsShaped old.now) where
+  pub lists_first : Shows [] of text → (r : Result X E) (items : X → List Row) → IfOk r (λ x. Shown text [] old new (items x)) → IfOk r (λ x. items x ≡ next_rows (λ y. y) None (old.now.trees (tree_of of)))
+  lists_first means r items h =
+      subst (λ l. IfOk r (λ x. items x ≡ l)) (next_whole of old fit None)
+      (walks_first old new fit.schema_is (numbered_rows old.now.trees fit.shaped of) means (shown_of of) (shows of []) r items h)
 
-abbrev pub first_document_text : List ℕ
-first_document_text = codes "SELECT rowid, db, id, seq, winner, del FROM docs ORDER BY rowid LIMIT 1"
-
-abbrev pub document_behind_text : List ℕ
-document_behind_text = codes "SELECT rowid, db, id, seq, winner, del FROM docs WHERE rowid > ?1 ORDER BY rowid LIMIT 1"
-
-pub first_document_is : IsCommand schema first_document_text (Select (first_program docs_tree [] document_columns number_order one) document_headings)
-unfolding understood everything
-first_document_is = record { is = refl; plain = (refl, refl); unlisted = refl }
-
-pub document_behind_is : IsCommand schema document_behind_text (Select (first_program docs_tree by_behind document_columns number_order one) document_headings)
-unfolding understood everything
-document_behind_is = record { is = refl; plain = (refl, refl); unlisted = refl }
-
-abbrev document_shown : Row → Row
-document_shown x = column x 0 ∷ column x 1 ∷ column x 2 ∷ column x 3 ∷ column x 4 ∷ column x 5 ∷ []
-
-whole_document : (rows : List Row) → AllByRecursion HasDocumentCells rows → AllByRecursion (λ r. document_shown r ≡ r) rows
-whole_document = all_weaker HasDocumentCells (λ r. document_shown r ≡ r) (λ r k. ap document_shown k ∙ sym k)
-
-module _ {X E : Type 0} (old new : State) (fit : IsShaped old.now) where
-  pub lists_first_document : (r : Result X E) (items : X → List Row) → IfOk r (λ x. Shown first_document_text [] old new (items x)) → IfOk r (λ x. items x ≡ next_rows (λ y. y) None (old.now.trees docs_tree))
-  lists_first_document r items h =
-      let rows = old.now.trees docs_tree in
-      subst (λ l. IfOk r (λ x. items x ≡ l)) (shown_whole document_shown None rows (whole_document rows fit.shaped.docs))
-      (walks_first old new fit.schema_is refl fit.shaped.kept.docs first_document_is document_shown (λ x. refl) r items h)
-
-  pub lists_document_behind : (last : ℤ) (r : Result X E) (items : X → List Row) → IfOk r (λ x. Shown document_behind_text (Int last ∷ []) old new (items x))
-      → IfOk r (λ x. items x ≡ next_rows (λ y. y) (Some last) (old.now.trees docs_tree))
-  lists_document_behind last r items h =
-      let rows = old.now.trees docs_tree in
-      subst (λ l. IfOk r (λ x. items x ≡ l)) (shown_whole document_shown (Some last) rows (whole_document rows fit.shaped.docs))
-      (walks_behind old new fit.schema_is refl fit.shaped.kept.docs document_behind_is last document_shown (λ x. refl) r items h)
-
-abbrev revision_headings : List (List ℕ)
-revision_headings = codes "rowid" ∷ codes "db" ∷ codes "id" ∷ codes "n" ∷ codes "hash" ∷ codes "parent" ∷ codes "held" ∷ codes "del" ∷ codes "body" ∷ []
-
-abbrev revision_columns : List Term
-revision_columns = col 1 0 ∷ col 1 1 ∷ col 1 2 ∷ col 1 3 ∷ col 1 4 ∷ col 1 5 ∷ col 1 6 ∷ col 1 7 ∷ col 1 8 ∷ []
-
-abbrev pub first_revision_text : List ℕ
-first_revision_text = codes "SELECT rowid, db, id, n, hash, parent, held, del, body FROM revs ORDER BY rowid LIMIT 1"
-
-abbrev pub revision_behind_text : List ℕ
-revision_behind_text = codes "SELECT rowid, db, id, n, hash, parent, held, del, body FROM revs WHERE rowid > ?1 ORDER BY rowid LIMIT 1"
-
-pub first_revision_is : IsCommand schema first_revision_text (Select (first_program revs_tree [] revision_columns number_order one) revision_headings)
-unfolding understood everything
-first_revision_is = record { is = refl; plain = (refl, refl); unlisted = refl }
-
-pub revision_behind_is : IsCommand schema revision_behind_text (Select (first_program revs_tree by_behind revision_columns number_order one) revision_headings)
-unfolding understood everything
-revision_behind_is = record { is = refl; plain = (refl, refl); unlisted = refl }
-
-abbrev revision_shown : Row → Row
-revision_shown x = column x 0 ∷ column x 1 ∷ column x 2 ∷ column x 3 ∷ column x 4 ∷ column x 5 ∷ column x 6 ∷ column x 7 ∷ column x 8 ∷ []
-
-whole_revision : (rows : List Row) → AllByRecursion HasRevisionCells rows → AllByRecursion (λ r. revision_shown r ≡ r) rows
-whole_revision = all_weaker HasRevisionCells (λ r. revision_shown r ≡ r) (λ r k. ap revision_shown k.is ∙ sym k.is)
-
-module _ {X E : Type 0} (old new : State) (fit : IsShaped old.now) where
-  pub lists_first_revision : (r : Result X E) (items : X → List Row) → IfOk r (λ x. Shown first_revision_text [] old new (items x)) → IfOk r (λ x. items x ≡ next_rows (λ y. y) None (old.now.trees revs_tree))
-  lists_first_revision r items h =
-      let rows = old.now.trees revs_tree in
-      subst (λ l. IfOk r (λ x. items x ≡ l)) (shown_whole revision_shown None rows (whole_revision rows fit.shaped.revs))
-      (walks_first old new fit.schema_is refl fit.shaped.kept.revs first_revision_is revision_shown (λ x. refl) r items h)
-
-  pub lists_revision_behind : (last : ℤ) (r : Result X E) (items : X → List Row) → IfOk r (λ x. Shown revision_behind_text (Int last ∷ []) old new (items x))
-      → IfOk r (λ x. items x ≡ next_rows (λ y. y) (Some last) (old.now.trees revs_tree))
-  lists_revision_behind last r items h =
-      let rows = old.now.trees revs_tree in
-      subst (λ l. IfOk r (λ x. items x ≡ l)) (shown_whole revision_shown (Some last) rows (whole_revision rows fit.shaped.revs))
-      (walks_behind old new fit.schema_is refl fit.shaped.kept.revs revision_behind_is last revision_shown (λ x. refl) r items h)
-
-abbrev local_headings : List (List ℕ)
-local_headings = codes "rowid" ∷ codes "db" ∷ codes "id" ∷ codes "n" ∷ codes "body" ∷ []
-
-abbrev local_columns : List Term
-local_columns = col 1 0 ∷ col 1 1 ∷ col 1 2 ∷ col 1 3 ∷ col 1 4 ∷ []
-
-abbrev pub first_local_text : List ℕ
-first_local_text = codes "SELECT rowid, db, id, n, body FROM locals ORDER BY rowid LIMIT 1"
-
-abbrev pub local_behind_text : List ℕ
-local_behind_text = codes "SELECT rowid, db, id, n, body FROM locals WHERE rowid > ?1 ORDER BY rowid LIMIT 1"
-
-pub first_local_is : IsCommand schema first_local_text (Select (first_program locals_tree [] local_columns number_order one) local_headings)
-unfolding understood everything
-first_local_is = record { is = refl; plain = (refl, refl); unlisted = refl }
-
-pub local_behind_is : IsCommand schema local_behind_text (Select (first_program locals_tree by_behind local_columns number_order one) local_headings)
-unfolding understood everything
-local_behind_is = record { is = refl; plain = (refl, refl); unlisted = refl }
-
-abbrev local_shown : Row → Row
-local_shown x = column x 0 ∷ column x 1 ∷ column x 2 ∷ column x 3 ∷ column x 4 ∷ []
-
-whole_local : (rows : List Row) → AllByRecursion HasLocalCells rows → AllByRecursion (λ r. local_shown r ≡ r) rows
-whole_local = all_weaker HasLocalCells (λ r. local_shown r ≡ r) (λ r k. ap local_shown k ∙ sym k)
-
-module _ {X E : Type 0} (old new : State) (fit : IsShaped old.now) where
-  pub lists_first_local : (r : Result X E) (items : X → List Row) → IfOk r (λ x. Shown first_local_text [] old new (items x)) → IfOk r (λ x. items x ≡ next_rows (λ y. y) None (old.now.trees locals_tree))
-  lists_first_local r items h =
-      let rows = old.now.trees locals_tree in
-      subst (λ l. IfOk r (λ x. items x ≡ l)) (shown_whole local_shown None rows (whole_local rows fit.shaped.locals))
-      (walks_first old new fit.schema_is refl fit.shaped.kept.locals first_local_is local_shown (λ x. refl) r items h)
-
-  pub lists_local_behind : (last : ℤ) (r : Result X E) (items : X → List Row) → IfOk r (λ x. Shown local_behind_text (Int last ∷ []) old new (items x))
-      → IfOk r (λ x. items x ≡ next_rows (λ y. y) (Some last) (old.now.trees locals_tree))
-  lists_local_behind last r items h =
-      let rows = old.now.trees locals_tree in
-      subst (λ l. IfOk r (λ x. items x ≡ l)) (shown_whole local_shown (Some last) rows (whole_local rows fit.shaped.locals))
-      (walks_behind old new fit.schema_is refl fit.shaped.kept.locals local_behind_is last local_shown (λ x. refl) r items h)
+  pub lists_behind : Shows by_behind of text → (last : ℤ) (r : Result X E) (items : X → List Row) → IfOk r (λ x. Shown text (Int last ∷ []) old new (items x))
+      → IfOk r (λ x. items x ≡ next_rows (λ y. y) (Some last) (old.now.trees (tree_of of)))
+  lists_behind means last r items h =
+      subst (λ l. IfOk r (λ x. items x ≡ l)) (next_whole of old fit (Some last))
+      (walks_behind old new fit.schema_is (numbered_rows old.now.trees fit.shaped of) means last (shown_of of) (shows of (Int last ∷ [])) r items h)
 
 -- ---- rows by their keys
 

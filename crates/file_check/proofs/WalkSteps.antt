@@ -1,100 +1,120 @@
 -- The steps of a walk over the rows of a table, one after another.
-use Rattle.std.proofs.Common.{◌≡◌, ℕ, ℤ, Bool, true, false, List, [], Option, Some, None, Result, Ok, Err, sym, subst, ap, ◌∙◌}
+use Rattle.std.proofs.Common.{◌≡◌, ℤ, Bool, true, false, List, [], Option, Some, None, Result, Ok, Err, sym, subst, ap, ◌∙◌}
 use Rattle.sqlite.specs.Effect.{Database}
 use Rattle.sqlite.specs.Held.{Held, state}
-use Rattle.sqlite_trees.specs.Tree.{Trees, IsAscending}
+use Rattle.sqlite_trees.specs.Tree.{Trees}
 use Rattle.sqlite_trees.specs.declared.store.Store.{Ghosts}
-use Rattle.sqlite_value.specs.Order.{Row}
-use Rattle.std.specs.Prelude.{◌<ℤ◌, find, slice_get, unwrap_or}
+use Rattle.sqlite_value.specs.Order.{Row, column}
+use Rattle.sqlite_value.specs.declared.value.Value.TheVariants.{Int}
+use Rattle.std.specs.Prelude.{find, option_map, slice_get, unwrap_or}
+use Rattle.tables.proofs.RowMaps.{find_found}
 use Rattle.tables.specs.Rows.{number_of}
 use Rattle.file_check.proofs.CheckSteps.{checks_none, checks_so, checks_stop, checks_then}
+use Rattle.file_check.proofs.IndexedTables.{known_rows, number_shown, numbered_rows}
 use Rattle.file_check.proofs.WalkedRows.{first_next, row_step, shown_nothing, shown_there, walked_all, walked_next, walked_none}
 use Rattle.file_check.specs.Checks.{Checks}
 use Rattle.file_check.specs.Indexes.{AreChecked, IsAnswer}
+use Rattle.file_check.specs.inner.IndexRows.{IsKnownRow, IsNextRow, IsOwnRow, IsReady, indexed_table, indexed_tree, shown_next}
 use Rattle.file_check.specs.inner.Walks.{AreWalked, IsRowStep, IsStep, is_behind, next_rows}
 use Rattle.file_check.specs.declared.finding.CheckFault.{CheckFault}
 use Rattle.file_check.specs.declared.finding.Finding.{Finding}
-use Rattle.file_check.specs.declared.finding.Table.{Table}
+use Rattle.file_check.specs.declared.indexes.indexed.Indexed.{Indexed}
 use Rattle.file_check.specs.declared.indexes.step.Step.{Step}
 use Rattle.file_check.specs.declared.indexes.step.Step.TheVariants.{Next, Found, Done}
 
-module _ {S : Type 0} (g : Ghosts S) (F : Database → Type 0) (of : Table) (tree : ℕ) (Is : Trees → Row → Type 0)
-    (rising : (d : Database) → F d → IsAscending (λ a b. number_of a <ℤ number_of b) (d.trees tree)) where
-  abbrev pub Tells : Option ℤ → Trees → Step → Type 0
-  Tells last trees step = IsStep of (trees tree) (Is trees) last step
+-- what a look at the next row of a table tells
+abbrev pub Tells : Indexed → Option ℤ → Trees → Step → Type 0
+Tells of last trees step = IsStep (indexed_table of) (trees (indexed_tree of)) (IsOwnRow of trees) last step
 
-  abbrev pub TellsAll : Trees → Option Finding → Type 0
-  TellsAll trees found = AreChecked of (trees tree) (Is trees) found
+-- what is told of all of them
+abbrev pub TellsAll : Indexed → Trees → Option Finding → Type 0
+TellsAll of trees found = AreChecked (indexed_table of) (trees (indexed_tree of)) (IsOwnRow of trees) found
 
-  -- the rows up to the last one are so
+-- the rows up to the last one are so
+abbrev pub AreSoUpTo : Indexed → Option ℤ → Trees → Type 0
+AreSoUpTo of last trees = AreWalked (IsOwnRow of trees) last (trees (indexed_tree of))
+
+-- what a step makes of the walk
+abbrev Comes : Indexed → Trees → Step → Type 0
+Comes of trees (Next n) = AreSoUpTo of (Some n) trees
+Comes of trees (Found f) = TellsAll of trees (Some f)
+Comes of trees Done = TellsAll of trees None
+
+comes : (of : Indexed) (last : Option ℤ) (d : Database) → IsReady of d → AreSoUpTo of last d.trees → (step : Step) → Tells of last d.trees step → Comes of d.trees step
+comes of last d fit so (Next n) is =
+    subst (λ m. AreSoUpTo of (Some m) d.trees) (sym is.2) (walked_next (IsOwnRow of d.trees) last (d.trees (indexed_tree of)) is.0 (numbered_rows of d fit).rising is.1 is.3 so)
+comes of last d fit so (Found f) is = is
+comes of last d fit so Done is = walked_all (IsOwnRow of d.trees) last (d.trees (indexed_tree of)) is so
+
+module _ {S : Type 0} (g : Ghosts S) (of : Indexed) where
+  -- the rows up to the last one are so, and the connection is as it was
   abbrev pub Walked : Option ℤ → Held S → Held S → Type 0
-  Walked last a b = Checks {X = Unit {0}} {E = CheckFault} g F a b (λ trees done. AreWalked (Is trees) last (trees tree)) (Ok tt)
+  Walked last a b = Checks {X = Unit {0}} {E = CheckFault} g (IsReady of) a b (λ trees done. AreSoUpTo of last trees) (Ok tt)
 
   pub begins : (a : Held S) → Walked None a a
-  begins a = checks_none g F (λ trees done. AreWalked (Is trees) None (trees tree)) a (Ok tt) (λ fit. walked_none (Is (state g a).now.trees) ((state g a).now.trees tree))
+  begins a = checks_none g (IsReady of) (λ trees done. AreSoUpTo of None trees) a (Ok tt) (λ fit. walked_none (IsOwnRow of (state g a).now.trees) ((state g a).now.trees (indexed_tree of)))
 
-  -- what a step makes of the walk
-  abbrev Comes : Trees → Step → Type 0
-  Comes trees (Next n) = AreWalked (Is trees) (Some n) (trees tree)
-  Comes trees (Found f) = TellsAll trees (Some f)
-  Comes trees Done = TellsAll trees None
+  -- a step that was made
+  stepped : (last : Option ℤ) {a b c : Held S} {r : Result Step CheckFault} → Walked last a b → Checks g (IsReady of) b c (Tells of last) r → Checks g (IsReady of) a c (Comes of) r
+  stepped last {a = a} p q = checks_then g (IsReady of) (IsReady of) {B = Tells of last} {C = Comes of} p q (λ fit so. fit) (λ fit. comes of last (state g a).now fit)
 
-  comes : (last : Option ℤ) (d : Database) → F d → AreWalked (Is d.trees) last (d.trees tree) → (step : Step) → Tells last d.trees step → Comes d.trees step
-  comes last d fit so (Next n) is =
-      subst (λ m. AreWalked (Is d.trees) (Some m) (d.trees tree)) (sym is.2) (walked_next (Is d.trees) last (d.trees tree) is.0 (rising d fit) is.1 is.3 so)
-  comes last d fit so (Found f) is = is
-  comes last d fit so Done is = walked_all (Is d.trees) last (d.trees tree) is so
+  -- a step that was made, and is this one
+  came : (last : Option ℤ) (now : Step) {step : Step} {a b c : Held S} → Walked last a b → Checks {E = CheckFault} g (IsReady of) b c (Tells of last) (Ok step) → step ≡ now → Checks {E = CheckFault} g (IsReady of) a c (Comes of) (Ok now)
+  came last now {a = a} {c = c} p q is = subst (λ s. Checks {E = CheckFault} g (IsReady of) a c (Comes of) (Ok s)) is (stepped last p q)
 
-  stepped : (last : Option ℤ) {a b c : Held S} {r : Result Step CheckFault} → Walked last a b → Checks g F b c (Tells last) r → Checks g F a c Comes r
-  stepped last {a = a} p q = checks_then g F F {B = Tells last} {C = Comes} p q (λ fit so. fit) (λ fit. comes last (state g a).now fit)
+  pub goes_on : (last : Option ℤ) (n : ℤ) {step : Step} {a b c : Held S} → Walked last a b → Checks {E = CheckFault} g (IsReady of) b c (Tells of last) (Ok step) → step ≡ Next n → Walked (Some n) a c
+  goes_on last n p q is = checks_so g (IsReady of) (IsReady of) (λ trees done. AreSoUpTo of (Some n) trees) (came last (Next n) p q is) (λ fit. fit) (λ fit so. so)
 
-  pub goes_on : (last : Option ℤ) (n : ℤ) {a b c : Held S} → Walked last a b → Checks {E = CheckFault} g F b c (Tells last) (Ok (Next n)) → Walked (Some n) a c
-  goes_on last n p q = checks_so g F F (λ trees done. AreWalked (Is trees) (Some n) (trees tree)) (stepped last p q) (λ fit. fit) (λ fit so. so)
+  pub finds : (last : Option ℤ) (f : Finding) {step : Step} {a b c : Held S} → Walked last a b → Checks {E = CheckFault} g (IsReady of) b c (Tells of last) (Ok step) → step ≡ Found f → Checks {E = CheckFault} g (IsReady of) a c (TellsAll of) (Ok (Some f))
+  finds last f p q is = checks_so g (IsReady of) (IsReady of) (TellsAll of) (came last (Found f) p q is) (λ fit. fit) (λ fit so. so)
 
-  pub finds : (last : Option ℤ) (f : Finding) {a b c : Held S} → Walked last a b → Checks {E = CheckFault} g F b c (Tells last) (Ok (Found f)) → Checks {E = CheckFault} g F a c TellsAll (Ok (Some f))
-  finds last f p q = checks_so g F F TellsAll (stepped last p q) (λ fit. fit) (λ fit so. so)
-
-  pub ends : (last : Option ℤ) {a b c : Held S} → Walked last a b → Checks {E = CheckFault} g F b c (Tells last) (Ok Done) → Checks {E = CheckFault} g F a c TellsAll (Ok None)
-  ends last p q = checks_so g F F TellsAll (stepped last p q) (λ fit. fit) (λ fit so. so)
+  pub ends : (last : Option ℤ) {step : Step} {a b c : Held S} → Walked last a b → Checks {E = CheckFault} g (IsReady of) b c (Tells of last) (Ok step) → step ≡ Done → Checks {E = CheckFault} g (IsReady of) a c (TellsAll of) (Ok None)
+  ends last p q is = checks_so g (IsReady of) (IsReady of) (TellsAll of) (came last Done p q is) (λ fit. fit) (λ fit so. so)
 
   -- a step that comes to no end
-  pub fails : (last : Option ℤ) (e : CheckFault) {a b c : Held S} (r : Result (Option Finding) CheckFault) → r ≡ Err e → Walked last a b → Checks {E = CheckFault} g F b c (Tells last) (Err e) → Checks g F a c TellsAll r
+  pub fails : (last : Option ℤ) (e : CheckFault) {a b c : Held S} (r : Result (Option Finding) CheckFault) → r ≡ Err e → Walked last a b → Checks {E = CheckFault} g (IsReady of) b c (Tells of last) (Err e) → Checks g (IsReady of) a c (TellsAll of) r
   fails last e r is p q = checks_stop g e r is (stepped last p q)
 
   -- there are too many rows
-  pub gives_up : (last : Option ℤ) (e : CheckFault) {a b : Held S} → Walked last a b → Checks g F a b TellsAll (Err e)
+  pub gives_up : (last : Option ℤ) (e : CheckFault) {a b : Held S} → Walked last a b → Checks g (IsReady of) a b (TellsAll of) (Err e)
   gives_up last e p = record { tells = λ clean fit. tt; stays = λ clean fit. tt; leaves = p.leaves; asks = p.asks }
 
-  -- the next row is read, and looked at
-  pub next_looked : {X E D : Type 0} (F' : Database → Type 0) (items : X → List Row) (show : Row → Row) (last : Option ℤ) (row : Row) {a b c : Held S} {v : X} {r : Result Step D}
-      → Checks {E = E} g F a b (λ trees x. items x ≡ next_rows show last (trees tree)) (Ok v) → slice_get (items v) 0 ≡ Some row
-      → Checks g F' b c (λ trees step. IsRowStep of (Is trees) (unwrap_or (find (is_behind last) ((state g a).now.trees tree)) []) step) r
-      → (F (state g a).now → find (is_behind last) ((state g a).now.trees tree) ≡ Some (unwrap_or (find (is_behind last) ((state g a).now.trees tree)) [])
-      → row ≡ show (unwrap_or (find (is_behind last) ((state g a).now.trees tree)) []) → F' (state g a).now)
-      → Checks g F a c (Tells last) r
-  next_looked F' items show last row {a = a} p at q fits =
-      let rows = (state g a).now.trees tree in
-      let o = find (is_behind last) rows in
-      checks_then g F F' {C = Tells last} p q
-      (λ fit is. let found = shown_there show o row (sym (ap (λ l. slice_get l 0) is ∙ first_next show last rows) ∙ at) in fits fit found.0 found.1)
-      (λ fit is step h. let found = shown_there show o row (sym (ap (λ l. slice_get l 0) is ∙ first_next show last rows) ∙ at) in row_step (Is (state g a).now.trees) of last rows (unwrap_or o []) step (rising (state g a).now fit) found.0 h)
+  module _ {X E : Type 0} (items : X → List Row) (last : Option ℤ) {a b : Held S} {v : X} (p : Checks {E = E} g (IsReady of) a b (λ trees x. items x ≡ next_rows (shown_next of) last (trees (indexed_tree of))) (Ok v)) where
+    -- the first row that is shown is that of the next row
+    first_shown : items v ≡ next_rows (shown_next of) last ((state g a).now.trees (indexed_tree of)) → (o : Option Row) → slice_get (items v) 0 ≡ o
+        → option_map (shown_next of) (find (is_behind last) ((state g a).now.trees (indexed_tree of))) ≡ o
+    first_shown is o at = sym (ap (λ l. slice_get l 0) is ∙ first_next (shown_next of) last ((state g a).now.trees (indexed_tree of))) ∙ at
 
-  -- there is none
-  pub next_none : {X E D : Type 0} (items : X → List Row) (show : Row → Row) (last : Option ℤ) {a b : Held S} {v : X}
-      → Checks {E = E} g F a b (λ trees x. items x ≡ next_rows show last (trees tree)) (Ok v) → slice_get (items v) 0 ≡ None → Checks {E = D} g F a b (Tells last) (Ok Done)
-  next_none items show last {a = a} p at =
-      let rows = (state g a).now.trees tree in
-      checks_so g F F (Tells last) p (λ fit. fit) (λ fit is. shown_nothing show (find (is_behind last) rows) (sym (ap (λ l. slice_get l 0) is ∙ first_next show last rows) ∙ at))
+    -- the next row is read, and looked at
+    pub next_looked : {D : Type 0} {c : Held S} (row : Row) {r : Result Step D} → slice_get (items v) 0 ≡ Some row → ((x : Row) → Checks g (IsNextRow of row x) b c (λ trees step. IsRowStep (indexed_table of) (IsOwnRow of trees) x step) r) → Checks g (IsReady of) a c (Tells of last) r
+    next_looked row at q =
+        let d = (state g a).now in
+        let rows = d.trees (indexed_tree of) in
+        let o = find (is_behind last) rows in
+        let x = unwrap_or o [] in
+        checks_then g (IsReady of) (IsNextRow of row x) {C = Tells of last} p (q x)
+        (λ fit is.
+        let found = shown_there (shown_next of) o row (first_shown is (Some row) at) in
+        record { ready = fit; row = (find_found (IsKnownRow of d.trees) (is_behind last) rows x (known_rows of d fit) found.0).0; shown_is = found.1 })
+        (λ fit is step h. row_step (IsOwnRow of d.trees) (indexed_table of) last rows x step (numbered_rows of d fit).rising (shown_there (shown_next of) o row (first_shown is (Some row) at)).0 h)
 
-module _ {S : Type 0} (g : Ghosts S) (F : Database → Type 0) (of : Table) (Is : Trees → Row → Type 0) (r : Row) where
-  -- the row is sound
-  pub row_sound : {E D : Type 0} (n : ℤ) (b : Bool) {old new : Held S} → Checks {E = E} g F old new (λ trees is. IsAnswer (Is trees r) is) (Ok b) → b ≡ true → (F (state g old).now → n ≡ number_of r)
-      → Checks {E = D} g F old new (λ trees step. IsRowStep of (Is trees) r step) (Ok (Next n))
-  row_sound n b {old = old} p is same =
-      checks_so g F F (λ trees step. IsRowStep of (Is trees) r step) p (λ fit. fit) (λ fit h. (same fit, subst (IsAnswer (Is (state g old).now.trees r)) is h))
+    -- there is none
+    pub next_none : {D : Type 0} → slice_get (items v) 0 ≡ None → Checks {E = D} g (IsReady of) a b (Tells of last) (Ok Done)
+    next_none at = checks_so g (IsReady of) (IsReady of) (Tells of last) p (λ fit. fit) (λ fit is. shown_nothing (shown_next of) (find (is_behind last) ((state g a).now.trees (indexed_tree of))) (first_shown is None at))
 
-  -- it is not
-  pub row_unsound : {E D : Type 0} (f : Finding) (b : Bool) {old new : Held S} → Checks {E = E} g F old new (λ trees is. IsAnswer (Is trees r) is) (Ok b) → b ≡ false → f.table ≡ of → (F (state g old).now → f.key ≡ number_of r)
-      → Checks {E = D} g F old new (λ trees step. IsRowStep of (Is trees) r step) (Ok (Found f))
-  row_unsound f b {old = old} p is table same =
-      checks_so g F F (λ trees step. IsRowStep of (Is trees) r step) p (λ fit. fit) (λ fit h. (table, same fit, subst (IsAnswer (Is (state g old).now.trees r)) is h))
+  module _ (s r : Row) {E D : Type 0} (b : Bool) {old new : Held S} (p : Checks {E = E} g (IsNextRow of s r) old new (λ trees is. IsAnswer (IsOwnRow of trees r) is) (Ok b)) where
+    -- the row is as it is to be
+    pub row_sound : (n : ℤ) → b ≡ true → ((m : ℤ) → column s 0 ≡ Int m → n ≡ m) → Checks {E = D} g (IsNextRow of s r) old new (λ trees step. IsRowStep (indexed_table of) (IsOwnRow of trees) r step) (Ok (Next n))
+    row_sound n is reads =
+        checks_so g (IsNextRow of s r) (IsNextRow of s r) (λ trees step. IsRowStep (indexed_table of) (IsOwnRow of trees) r step) p (λ fit. fit)
+        (λ fit h. (reads (number_of r) (number_shown of s r (state g old).now fit), subst (IsAnswer (IsOwnRow of (state g old).now.trees r)) is h))
+
+    -- it is not
+    pub row_unsound : (f : Finding) → b ≡ false → f.table ≡ indexed_table of → ((m : ℤ) → column s 0 ≡ Int m → f.key ≡ m) → Checks {E = D} g (IsNextRow of s r) old new (λ trees step. IsRowStep (indexed_table of) (IsOwnRow of trees) r step) (Ok (Found f))
+    row_unsound f is table reads =
+        checks_so g (IsNextRow of s r) (IsNextRow of s r) (λ trees step. IsRowStep (indexed_table of) (IsOwnRow of trees) r step) p (λ fit. fit)
+        (λ fit h. (table, reads (number_of r) (number_shown of s r (state g old).now fit), subst (IsAnswer (IsOwnRow of (state g old).now.trees r)) is h))
+
+  -- what is told of a row of one table, where the table is this one
+  pub own_as : (t : Indexed) (s r : Row) {E : Type 0} {old new : Held S} {told : Result Bool E} → t ≡ of → Checks g (IsNextRow of s r) old new (λ trees is. IsAnswer (IsOwnRow of trees r) is) told → Checks g (IsNextRow t s r) old new (λ trees is. IsAnswer (IsOwnRow t trees r) is) told
+  own_as t s r {old = old} {new = new} {told = told} is p = subst (λ u. Checks g (IsNextRow u s r) old new (λ trees is. IsAnswer (IsOwnRow u trees r) is) told) (sym is) p

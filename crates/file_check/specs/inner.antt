@@ -5,4 +5,5 @@ pub mod Queries
 pub mod Rows
 pub mod IndexRows
 pub mod Walks
+pub mod Statements
 pub mod Counted

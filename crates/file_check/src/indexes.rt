@@ -4,18 +4,19 @@ ghost use Rattle.file_check.specs.Indexes.{AreIndexesChecked, IsCheckable};
 ghost use Rattle.file_check.specs.Checks.{Checks};
 
 mod cells;
+mod checking;
 mod declared;
 mod entered;
 mod followed;
 mod found;
+pub(crate) mod indexed;
 mod statements;
 pub(crate) mod step;
 mod stored;
 
 use crate::finding::{CheckFault, Finding};
-use crate::indexes::declared::check_declarations;
-use crate::indexes::entered::check_entries;
-use crate::indexes::followed::check_documents;
+use crate::indexes::checking::check_rows;
+use crate::indexes::indexed::Indexed;
 use sqlite::{Alter, Connection};
 use std::alloc::Global;
 
@@ -29,11 +30,11 @@ pub fn check_indexes<S: Alter>(
 ) -> Result<Option<Finding>, CheckFault>
     ensures { Checks S.Store IsCheckable conn.old conn.new AreIndexesChecked result }
 {
-    if let Some(finding) = check_declarations(alloc, conn)? {
+    if let Some(finding) = check_rows(alloc, conn, Indexed::Declarations)? {
         return Ok(Some(finding));
     }
-    if let Some(finding) = check_documents(alloc, conn)? {
+    if let Some(finding) = check_rows(alloc, conn, Indexed::Documents)? {
         return Ok(Some(finding));
     }
-    check_entries(alloc, conn)
+    check_rows(alloc, conn, Indexed::Entries)
 }

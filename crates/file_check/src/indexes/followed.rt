@@ -5,22 +5,20 @@ ghost use Rattle.std.specs.Prelude.{◌≡◌, List, Some, true};
 ghost use Rattle.std.specs.List.{AllByRecursion, list_any};
 ghost use Rattle.couch_json.specs.View.{members_view, view};
 ghost use Rattle.sqlite_value.specs.Order as order;
-ghost use Rattle.tables.specs.Schema.{decls_tree, docs_tree};
+ghost use Rattle.tables.specs.Schema.{decls_tree};
 ghost use Rattle.index.specs.Rebuilding.{names_of};
 ghost use Rattle.index.specs.Rows.{is_declaration_of};
 ghost use Rattle.store.specs.Indexes.{index_fields_of, queried_document};
 ghost use Rattle.tree.specs.DocumentId.{is_design_id};
-ghost use Rattle.file_check.specs.inner.IndexRows.{IsNextDocument, IsShownIndex, AreShownIndexes};
-ghost use Rattle.file_check.specs.Indexes.{AreChecked, HasItsKey, HaveItsKeys, HaveRows, IsAnswer, IsIndexedDocument, IsReadable};
+ghost use Rattle.file_check.specs.inner.IndexRows.{IsNextRow, IsShownIndex, AreShownIndexes};
+ghost use Rattle.file_check.specs.Indexes.{HasItsKey, HaveItsKeys, HaveRows, IsAnswer, IsIndexedDocument, IsReadable};
 ghost use Rattle.file_check.specs.Checks.{Checks};
-ghost use Rattle.file_check.specs.inner.Walks.{IsRowStep, IsStep};
-ghost use Rattle.file_check.specs.declared.finding.Table.TheVariants as table;
+ghost use Rattle.file_check.specs.declared.indexes.indexed.Indexed.TheVariants as indexed;
 
-use crate::finding::{CheckFault, Finding, Table, Wrong};
+use crate::finding::CheckFault;
 use crate::indexes::cells::{blob_in, id_in, whole_in};
 use crate::indexes::found::{find_index, is_entered, make_key};
-use crate::indexes::statements::{index_rows_of, next_document};
-use crate::indexes::step::{Step, next_number};
+use crate::indexes::statements::index_rows_of;
 use crate::indexes::stored::read_winning;
 use couch_json::{Json, NameMap};
 use policy::check_indexes;
@@ -29,68 +27,13 @@ use std::alloc::Global;
 use store::{find_winning_body, show_queried};
 use tree::{DocId, History};
 
-/// Checks that the rows of indexes follow each document of all databases.
-pub(crate) fn check_documents<S: Alter>(
-    alloc: Global,
-    conn: &mut Connection<S>,
-) -> Result<Option<Finding>, CheckFault>
-    ensures { Checks S.Store IsReadable conn.old conn.new (λ trees found. AreChecked table.Documents (trees docs_tree) (IsIndexedDocument trees) found) result }
-{
-    let mut last = None;
-    for _row in 0..u64::MAX {
-        let step = step_document(alloc, conn, &last)?;
-        match step {
-            Step::Next(_number) => last = next_number(&step),
-            Step::Found(finding) => return Ok(Some(finding)),
-            Step::Done => return Ok(None),
-        }
-    }
-    Err(CheckFault::Memory)
-}
-
-/// Checks the next document.
-fn step_document<S: Alter>(
-    alloc: Global,
-    conn: &mut Connection<S>,
-    last: &Option<i64>,
-) -> Result<Step, CheckFault>
-    ensures { Checks S.Store IsReadable conn.old conn.new
-        (λ trees step. IsStep table.Documents (trees docs_tree) (IsIndexedDocument trees) last.now step) result }
-{
-    let rows = next_document(conn, last)?;
-    match rows.first() {
-        Some(row) => check_document(alloc, conn, row),
-        None => Ok(Step::Done),
-    }
-}
-
-/// Checks the document of a row.
-fn check_document<S: Alter>(
-    alloc: Global,
-    conn: &mut Connection<S>,
-    row: &Row,
-) -> Result<Step, CheckFault>
-    ensures { (r : order.Row)
-        → Checks S.Store (IsNextDocument row.now r) conn.old conn.new (λ trees step. IsRowStep table.Documents (IsIndexedDocument trees) r step) result }
-{
-    let number = whole_in(row, 0);
-    if is_followed(alloc, conn, row)? {
-        return Ok(Step::Next(number));
-    }
-    Ok(Step::Found(Finding {
-        table: Table::Documents,
-        key: number,
-        wrong: Wrong::Missing,
-    }))
-}
-
 /// Tells whether the rows of indexes follow the document of a row.
-fn is_followed<S: Alter>(
+pub(crate) fn is_followed<S: Alter>(
     alloc: Global,
     conn: &mut Connection<S>,
     row: &Row,
 ) -> Result<bool, CheckFault>
-    ensures { (r : order.Row) → Checks S.Store (IsNextDocument row.now r) conn.old conn.new (λ trees is. IsAnswer (IsIndexedDocument trees r) is) result }
+    ensures { (r : order.Row) → Checks S.Store (IsNextRow indexed.Documents row.now r) conn.old conn.new (λ trees is. IsAnswer (IsIndexedDocument trees r) is) result }
 {
     let Some(id) = id_in(alloc, row, 2)? else {
         return Ok(false);

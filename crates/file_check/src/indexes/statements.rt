@@ -3,123 +3,78 @@
 ghost use Rattle.std.specs.Prelude.{◌≡◌, ◌∷◌, [], filter, map, None, Some};
 ghost use Rattle.sqlite_value.specs.Order.{column};
 ghost use Rattle.tables.specs.Calls.{Reads};
-ghost use Rattle.tables.specs.Layout.{IsStore};
 ghost use Rattle.tables.specs.Rows.{has_number};
-ghost use Rattle.tables.specs.Schema.{decls_tree, docs_tree, entries_tree};
+ghost use Rattle.tables.specs.Schema.{decls_tree, entries_tree};
 ghost use Rattle.index.specs.Layout.{HasIndexRows};
 ghost use Rattle.index.specs.Rows.{is_at_home, is_entry_of};
-ghost use Rattle.file_check.specs.Indexes.{HasIndexCells};
-ghost use Rattle.file_check.specs.inner.IndexRows.{next_declaration, next_document, next_entry, shown_index};
+ghost use Rattle.file_check.specs.inner.IndexRows.{IsReady, indexed_tree, shown_index, shown_next};
+ghost use Rattle.file_check.specs.inner.Statements.{behind_indexed, first_indexed};
 ghost use Rattle.file_check.specs.inner.Walks.{next_rows};
 
+use crate::indexes::indexed::Indexed;
 use sqlite::{Alter, Connection, Error, Row, params};
 use tables::statement::query;
 
-/// Returns the row of the first declaration, if there is one: its number, the number of its database, the
-/// design document, the name and the fields.
-fn first_declaration<S: Alter>(conn: &mut Connection<S>) -> Result<Vec<Row>, Error>
-    ensures { Reads S.Store HasIndexCells conn.old conn.new (λ trees rows. rows.items ≡ next_rows next_declaration None (trees decls_tree)) result }
-{
-    query(
-        conn,
-        "SELECT num, db, ddoc, name, fields FROM decls ORDER BY num LIMIT 1",
-        &[],
-    )
-}
-
-/// Returns that of the first one behind this number.
-fn declaration_behind<S: Alter>(conn: &mut Connection<S>, last: &i64) -> Result<Vec<Row>, Error>
-    ensures { Reads S.Store HasIndexCells conn.old conn.new (λ trees rows. rows.items ≡ next_rows next_declaration (Some last.now) (trees decls_tree)) result }
-{
-    query(
-        conn,
-        "SELECT num, db, ddoc, name, fields FROM decls WHERE num > ?1 ORDER BY num LIMIT 1",
-        params![last],
-    )
-}
-
-/// Returns the row of the next declaration, if there is one: that behind the last number, or the first one.
-pub(crate) fn next_declaration<S: Alter>(
+/// Returns what is looked at of the next row of a table, if there is one: that behind the last number, or the first
+/// one.
+pub(crate) fn next_row<S: Alter>(
     conn: &mut Connection<S>,
+    table: Indexed,
     last: &Option<i64>,
 ) -> Result<Vec<Row>, Error>
-    ensures { Reads S.Store HasIndexCells conn.old conn.new (λ trees rows. rows.items ≡ next_rows next_declaration last.now (trees decls_tree)) result }
+    ensures { Reads S.Store (IsReady table) conn.old conn.new (λ trees rows. rows.items ≡ next_rows (shown_next table) last.now (trees (indexed_tree table))) result }
 {
     match last {
-        Some(last) => declaration_behind(conn, last),
-        None => first_declaration(conn),
+        Some(last) => row_behind(conn, table, last),
+        None => first_row(conn, table),
     }
 }
 
-/// Returns the row of the first document of all databases, if there is one: its number, that of its database,
-/// and its id.
-fn first_document<S: Alter>(conn: &mut Connection<S>) -> Result<Vec<Row>, Error>
-    ensures { Reads S.Store IsStore conn.old conn.new (λ trees rows. rows.items ≡ next_rows next_document None (trees docs_tree)) result }
+/// Returns the same of the first row of a table, if there is one.
+fn first_row<S: Alter>(conn: &mut Connection<S>, table: Indexed) -> Result<Vec<Row>, Error>
+    ensures { Reads S.Store (IsReady table) conn.old conn.new (λ trees rows. rows.items ≡ next_rows (shown_next table) None (trees (indexed_tree table))) result }
 {
-    query(
-        conn,
-        "SELECT rowid, db, id FROM docs ORDER BY rowid LIMIT 1",
-        &[],
-    )
+    query(conn, first_text(table), &[])
 }
 
-/// Returns that of the first one behind this number.
-fn document_behind<S: Alter>(conn: &mut Connection<S>, last: &i64) -> Result<Vec<Row>, Error>
-    ensures { Reads S.Store IsStore conn.old conn.new (λ trees rows. rows.items ≡ next_rows next_document (Some last.now) (trees docs_tree)) result }
-{
-    query(
-        conn,
-        "SELECT rowid, db, id FROM docs WHERE rowid > ?1 ORDER BY rowid LIMIT 1",
-        params![last],
-    )
-}
-
-/// Returns the row of the next document, if there is one: that behind the last number, or the first one.
-pub(crate) fn next_document<S: Alter>(
+/// Returns the same of the first row of a table behind this number, if there is one.
+fn row_behind<S: Alter>(
     conn: &mut Connection<S>,
-    last: &Option<i64>,
+    table: Indexed,
+    last: &i64,
 ) -> Result<Vec<Row>, Error>
-    ensures { Reads S.Store IsStore conn.old conn.new (λ trees rows. rows.items ≡ next_rows next_document last.now (trees docs_tree)) result }
+    ensures { Reads S.Store (IsReady table) conn.old conn.new (λ trees rows. rows.items ≡ next_rows (shown_next table) (Some last.now) (trees (indexed_tree table))) result }
 {
-    match last {
-        Some(last) => document_behind(conn, last),
-        None => first_document(conn),
+    query(conn, behind_text(table), params![last])
+}
+
+/// Returns the statement that shows the first row of a table.
+fn first_text(table: Indexed) -> &'static str
+    ensures { result.now ≡ first_indexed table }
+{
+    match table {
+        Indexed::Declarations => {
+            "SELECT num, db, ddoc, name, fields FROM decls ORDER BY num LIMIT 1"
+        }
+        Indexed::Documents => "SELECT rowid, db, id FROM docs ORDER BY rowid LIMIT 1",
+        Indexed::Entries => "SELECT rowid, decl, k, id FROM entries ORDER BY rowid LIMIT 1",
     }
 }
 
-/// Returns the row of the first entry of all indexes, if there is one: its number, that of the declaration, the
-/// key and the id.
-fn first_entry<S: Alter>(conn: &mut Connection<S>) -> Result<Vec<Row>, Error>
-    ensures { Reads S.Store HasIndexRows conn.old conn.new (λ trees rows. rows.items ≡ next_rows next_entry None (trees entries_tree)) result }
+/// Returns the statement that shows the first row of a table behind a number.
+fn behind_text(table: Indexed) -> &'static str
+    ensures { result.now ≡ behind_indexed table }
 {
-    query(
-        conn,
-        "SELECT rowid, decl, k, id FROM entries ORDER BY rowid LIMIT 1",
-        &[],
-    )
-}
-
-/// Returns that of the first one behind this number.
-fn entry_behind<S: Alter>(conn: &mut Connection<S>, last: &i64) -> Result<Vec<Row>, Error>
-    ensures { Reads S.Store HasIndexRows conn.old conn.new (λ trees rows. rows.items ≡ next_rows next_entry (Some last.now) (trees entries_tree)) result }
-{
-    query(
-        conn,
-        "SELECT rowid, decl, k, id FROM entries WHERE rowid > ?1 ORDER BY rowid LIMIT 1",
-        params![last],
-    )
-}
-
-/// Returns the row of the next entry, if there is one: that behind the last number, or the first one.
-pub(crate) fn next_entry<S: Alter>(
-    conn: &mut Connection<S>,
-    last: &Option<i64>,
-) -> Result<Vec<Row>, Error>
-    ensures { Reads S.Store HasIndexRows conn.old conn.new (λ trees rows. rows.items ≡ next_rows next_entry last.now (trees entries_tree)) result }
-{
-    match last {
-        Some(last) => entry_behind(conn, last),
-        None => first_entry(conn),
+    match table {
+        Indexed::Declarations => {
+            "SELECT num, db, ddoc, name, fields FROM decls WHERE num > ?1 ORDER BY num LIMIT 1"
+        }
+        Indexed::Documents => {
+            "SELECT rowid, db, id FROM docs WHERE rowid > ?1 ORDER BY rowid LIMIT 1"
+        }
+        Indexed::Entries => {
+            "SELECT rowid, decl, k, id FROM entries WHERE rowid > ?1 ORDER BY rowid LIMIT 1"
+        }
     }
 }
 

@@ -1,7 +1,6 @@
 //! The tables, each row by row.
 
 ghost use Rattle.std.specs.Prelude.{◌≡◌, ◌↔◌, ◌∷◌, [], IsTrue, MatchOption, Some};
-ghost use Rattle.tables.specs.Calls.{Reads};
 ghost use Rattle.tables.specs.Layout.{version_row};
 ghost use Rattle.tables.specs.Presence.{version_in};
 ghost use Rattle.tables.specs.Rows.{number_of};
@@ -11,7 +10,7 @@ ghost use Rattle.file_check.specs.Inspecting.{Goes, Inspects};
 ghost use Rattle.file_check.specs.Tables.{AreTablesChecked, HasSoundDatabases, HasSoundDocuments, HasSoundLocals};
 ghost use Rattle.file_check.specs.Tables.{HasSoundRevisions, IsShaped, IsSoundRow, table_of_finding, tree_of};
 ghost use Rattle.file_check.specs.inner.Queries.{AreRowsChecked, HasCells, IsBefore, IsThisVersion, Judges};
-ghost use Rattle.file_check.specs.inner.Walks.{IsRowStep, IsStep, next_rows};
+ghost use Rattle.file_check.specs.inner.Walks.{IsRowStep, IsStep};
 
 use crate::finding::{CheckFault, Finding, Table, Wrong};
 use crate::indexes::step::{Step, next_number};
@@ -22,27 +21,9 @@ use crate::layout::documents::check_document;
 use crate::layout::finding_rows::whole_or_zero;
 use crate::layout::locals::check_local;
 use crate::layout::revisions::check_revision;
-use crate::layout::statements::{
-    next_database, next_document, next_local, next_revision, version_rows,
-};
-use sqlite::{Alter, Connection, Error, Row};
+use crate::layout::statements::{next_row, version_rows};
+use sqlite::{Alter, Connection, Row};
 use std::alloc::Global;
-
-/// Returns the next row of a table, if there is one: that behind the last number, or the first one.
-fn next_row<S: Alter>(
-    conn: &mut Connection<S>,
-    table: Checked,
-    last: &Option<i64>,
-) -> Result<Vec<Row>, Error>
-    ensures { Reads S.Store IsShaped conn.old conn.new (λ trees rows. rows.items ≡ next_rows (λ r. r) last.now (trees (tree_of table))) result }
-{
-    match table {
-        Checked::Databases => next_database(conn, last),
-        Checked::Documents => next_document(conn, last),
-        Checked::Revisions => next_revision(conn, last),
-        Checked::Locals => next_local(conn, last),
-    }
-}
 
 /// Checks one row of a table.
 fn check_row<S: Alter>(

@@ -3,11 +3,13 @@
 ghost use Rattle.std.specs.Prelude.{◌≡◌, IsPermutation, filter, map, None, Some};
 ghost use Rattle.tables.specs.Calls.{Reads};
 ghost use Rattle.tables.specs.Rows.{has_number, is_row_of_document, listed_document, shown_revision};
-ghost use Rattle.tables.specs.Schema.{dbs_tree, docs_tree, locals_tree, meta_tree, revs_tree};
-ghost use Rattle.file_check.specs.Tables.{IsShaped};
+ghost use Rattle.tables.specs.Schema.{dbs_tree, docs_tree, meta_tree, revs_tree};
+ghost use Rattle.file_check.specs.Tables.{IsShaped, tree_of};
 ghost use Rattle.file_check.specs.inner.Queries.{is_numbered, is_stored, shown_length, shown_numbered, shown_stored};
+ghost use Rattle.file_check.specs.inner.Statements.{behind_statement, first_statement};
 ghost use Rattle.file_check.specs.inner.Walks.{next_rows};
 
+use crate::layout::checked::Checked;
 use sqlite::{Alter, Connection, Error, Row, params};
 use tables::statement::query;
 
@@ -18,143 +20,71 @@ pub(crate) fn version_rows<S: Alter>(conn: &mut Connection<S>) -> Result<Vec<Row
     query(conn, "SELECT rowid, version FROM meta", &[])
 }
 
-/// Returns the row of the first database, if there is one.
-fn first_database<S: Alter>(conn: &mut Connection<S>) -> Result<Vec<Row>, Error>
-    ensures { Reads S.Store IsShaped conn.old conn.new (λ trees rows. rows.items ≡ next_rows (λ r. r) None (trees dbs_tree)) result }
-{
-    query(
-        conn,
-        "SELECT num, NULL, name, sec, seq FROM dbs ORDER BY num LIMIT 1",
-        &[],
-    )
-}
-
-/// Returns that of the first one behind this number.
-fn database_behind<S: Alter>(conn: &mut Connection<S>, last: &i64) -> Result<Vec<Row>, Error>
-    ensures { Reads S.Store IsShaped conn.old conn.new (λ trees rows. rows.items ≡ next_rows (λ r. r) (Some last.now) (trees dbs_tree)) result }
-{
-    query(
-        conn,
-        "SELECT num, NULL, name, sec, seq FROM dbs WHERE num > ?1 ORDER BY num LIMIT 1",
-        params![last],
-    )
-}
-
-/// Returns the row of the next database, if there is one: that behind the last number, or the first one.
-pub(crate) fn next_database<S: Alter>(
+/// Returns the next row of a table, if there is one: that behind the last number, or the first one.
+pub(crate) fn next_row<S: Alter>(
     conn: &mut Connection<S>,
+    table: Checked,
     last: &Option<i64>,
 ) -> Result<Vec<Row>, Error>
-    ensures { Reads S.Store IsShaped conn.old conn.new (λ trees rows. rows.items ≡ next_rows (λ r. r) last.now (trees dbs_tree)) result }
+    ensures { Reads S.Store IsShaped conn.old conn.new (λ trees rows. rows.items ≡ next_rows (λ r. r) last.now (trees (tree_of table))) result }
 {
     match last {
-        Some(last) => database_behind(conn, last),
-        None => first_database(conn),
+        Some(last) => row_behind(conn, table, last),
+        None => first_row(conn, table),
     }
 }
 
-/// Returns the row of the first document, if there is one.
-fn first_document<S: Alter>(conn: &mut Connection<S>) -> Result<Vec<Row>, Error>
-    ensures { Reads S.Store IsShaped conn.old conn.new (λ trees rows. rows.items ≡ next_rows (λ r. r) None (trees docs_tree)) result }
+/// Returns the first row of a table, if there is one.
+fn first_row<S: Alter>(conn: &mut Connection<S>, table: Checked) -> Result<Vec<Row>, Error>
+    ensures { Reads S.Store IsShaped conn.old conn.new (λ trees rows. rows.items ≡ next_rows (λ r. r) None (trees (tree_of table))) result }
 {
-    query(
-        conn,
-        "SELECT rowid, db, id, seq, winner, del FROM docs ORDER BY rowid LIMIT 1",
-        &[],
-    )
+    query(conn, first_text(table), &[])
 }
 
-/// Returns that of the first one behind this number.
-fn document_behind<S: Alter>(conn: &mut Connection<S>, last: &i64) -> Result<Vec<Row>, Error>
-    ensures { Reads S.Store IsShaped conn.old conn.new (λ trees rows. rows.items ≡ next_rows (λ r. r) (Some last.now) (trees docs_tree)) result }
-{
-    query(
-        conn,
-        "SELECT rowid, db, id, seq, winner, del FROM docs WHERE rowid > ?1 ORDER BY rowid LIMIT 1",
-        params![last],
-    )
-}
-
-/// Returns the row of the next document, if there is one: that behind the last number, or the first one.
-pub(crate) fn next_document<S: Alter>(
+/// Returns the first row of a table behind this number, if there is one.
+fn row_behind<S: Alter>(
     conn: &mut Connection<S>,
-    last: &Option<i64>,
+    table: Checked,
+    last: &i64,
 ) -> Result<Vec<Row>, Error>
-    ensures { Reads S.Store IsShaped conn.old conn.new (λ trees rows. rows.items ≡ next_rows (λ r. r) last.now (trees docs_tree)) result }
+    ensures { Reads S.Store IsShaped conn.old conn.new (λ trees rows. rows.items ≡ next_rows (λ r. r) (Some last.now) (trees (tree_of table))) result }
 {
-    match last {
-        Some(last) => document_behind(conn, last),
-        None => first_document(conn),
+    query(conn, behind_text(table), params![last])
+}
+
+/// Returns the statement that shows the first row of a table.
+fn first_text(table: Checked) -> &'static str
+    ensures { result.now ≡ first_statement table }
+{
+    match table {
+        Checked::Databases => "SELECT num, NULL, name, sec, seq FROM dbs ORDER BY num LIMIT 1",
+        Checked::Documents => {
+            "SELECT rowid, db, id, seq, winner, del FROM docs ORDER BY rowid LIMIT 1"
+        }
+        Checked::Revisions => {
+            "SELECT rowid, db, id, n, hash, parent, held, del, body FROM revs ORDER BY rowid LIMIT 1"
+        }
+        Checked::Locals => "SELECT rowid, db, id, n, body FROM locals ORDER BY rowid LIMIT 1",
     }
 }
 
-/// Returns the row of the first revision, if there is one.
-fn first_revision<S: Alter>(conn: &mut Connection<S>) -> Result<Vec<Row>, Error>
-    ensures { Reads S.Store IsShaped conn.old conn.new (λ trees rows. rows.items ≡ next_rows (λ r. r) None (trees revs_tree)) result }
+/// Returns the statement that shows the first row of a table behind a number.
+fn behind_text(table: Checked) -> &'static str
+    ensures { result.now ≡ behind_statement table }
 {
-    query(
-        conn,
-        "SELECT rowid, db, id, n, hash, parent, held, del, body FROM revs ORDER BY rowid LIMIT 1",
-        &[],
-    )
-}
-
-/// Returns that of the first one behind this number.
-fn revision_behind<S: Alter>(conn: &mut Connection<S>, last: &i64) -> Result<Vec<Row>, Error>
-    ensures { Reads S.Store IsShaped conn.old conn.new (λ trees rows. rows.items ≡ next_rows (λ r. r) (Some last.now) (trees revs_tree)) result }
-{
-    query(
-        conn,
-        "SELECT rowid, db, id, n, hash, parent, held, del, body FROM revs WHERE rowid > ?1 ORDER BY rowid LIMIT 1",
-        params![last],
-    )
-}
-
-/// Returns the row of the next revision, if there is one: that behind the last number, or the first one.
-pub(crate) fn next_revision<S: Alter>(
-    conn: &mut Connection<S>,
-    last: &Option<i64>,
-) -> Result<Vec<Row>, Error>
-    ensures { Reads S.Store IsShaped conn.old conn.new (λ trees rows. rows.items ≡ next_rows (λ r. r) last.now (trees revs_tree)) result }
-{
-    match last {
-        Some(last) => revision_behind(conn, last),
-        None => first_revision(conn),
-    }
-}
-
-/// Returns the row of the first local document, if there is one.
-fn first_local<S: Alter>(conn: &mut Connection<S>) -> Result<Vec<Row>, Error>
-    ensures { Reads S.Store IsShaped conn.old conn.new (λ trees rows. rows.items ≡ next_rows (λ r. r) None (trees locals_tree)) result }
-{
-    query(
-        conn,
-        "SELECT rowid, db, id, n, body FROM locals ORDER BY rowid LIMIT 1",
-        &[],
-    )
-}
-
-/// Returns that of the first one behind this number.
-fn local_behind<S: Alter>(conn: &mut Connection<S>, last: &i64) -> Result<Vec<Row>, Error>
-    ensures { Reads S.Store IsShaped conn.old conn.new (λ trees rows. rows.items ≡ next_rows (λ r. r) (Some last.now) (trees locals_tree)) result }
-{
-    query(
-        conn,
-        "SELECT rowid, db, id, n, body FROM locals WHERE rowid > ?1 ORDER BY rowid LIMIT 1",
-        params![last],
-    )
-}
-
-/// Returns the row of the next local document, if there is one: that behind the last number, or the first one.
-pub(crate) fn next_local<S: Alter>(
-    conn: &mut Connection<S>,
-    last: &Option<i64>,
-) -> Result<Vec<Row>, Error>
-    ensures { Reads S.Store IsShaped conn.old conn.new (λ trees rows. rows.items ≡ next_rows (λ r. r) last.now (trees locals_tree)) result }
-{
-    match last {
-        Some(last) => local_behind(conn, last),
-        None => first_local(conn),
+    match table {
+        Checked::Databases => {
+            "SELECT num, NULL, name, sec, seq FROM dbs WHERE num > ?1 ORDER BY num LIMIT 1"
+        }
+        Checked::Documents => {
+            "SELECT rowid, db, id, seq, winner, del FROM docs WHERE rowid > ?1 ORDER BY rowid LIMIT 1"
+        }
+        Checked::Revisions => {
+            "SELECT rowid, db, id, n, hash, parent, held, del, body FROM revs WHERE rowid > ?1 ORDER BY rowid LIMIT 1"
+        }
+        Checked::Locals => {
+            "SELECT rowid, db, id, n, body FROM locals WHERE rowid > ?1 ORDER BY rowid LIMIT 1"
+        }
     }
 }
 

@@ -20,4 +20,4 @@ pub returns : goal.returns
 returns g c =
     let none : c.in_ok-finding.field-0 ≡ None = search rules in
     let also : c.in_ok-finding-2.field-0 ≡ None = search rules in
-    behind_documents g.S.Store c.in_ok-finding-2.field-0 (behind_declarations g.S.Store c.in_ok-finding.field-0 c.in_ok-finding.ensures none c.in_ok-finding-2.ensures) also c.check_entries.ensures
+    behind_documents g.S.Store c.in_ok-finding-2.field-0 (behind_declarations g.S.Store c.in_ok-finding.field-0 c.in_ok-finding.ensures none c.in_ok-finding-2.ensures) also c.check_rows-3.ensures
