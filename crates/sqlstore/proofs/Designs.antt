@@ -17,10 +17,8 @@ use Rattle.sqlite_trees.specs.Tree.{Trees}
 use Rattle.sqlite_keyed.specs.Lists.{sort_by}
 use Rattle.store.specs.Database.{Document, TextMap, history_in}
 use Rattle.store.specs.Pages.{IdPage, id_page, if_counted, in_direction, is_after_end_of, is_before_start_of, live_rev, live_rows as rows_of_entries, row_counts, up_to_limit, with_row}
-use Rattle.store.specs.PageStructs.{id_page_of}
 use Rattle.store.specs.declared.listing.IdRange.{IdRange}
 use Rattle.store.specs.declared.listing.IdRow.{IdRow}
-use Rattle.store.specs.declared.listing.PageById.{PageById}
 use Rattle.tables.proofs.Common.{IsWellFormed, all_weaker, database_row, inside, not}
 use Rattle.tables.proofs.ListingRows.{live_by_id}
 use Rattle.tables.proofs.Lookups.{document_found}

@@ -1,4 +1,4 @@
-use Rattle.sqlstore.proofs.Lemmas.{IsKnown, ap, known_so, state, subst, sym, trees_of, was_honest, ∥∥₁_map, ◌∙◌}
+use Rattle.sqlstore.proofs.Lemmas.{IsKnown, known_so, state, subst, sym, trees_of, was_honest, ∥∥₁_map, ◌∙◌}
 use Rattle.sqlstore.proofs.sql_store.SqlStore.learn_designs.Goals as goal
 
 pub invariant_of-self : goal.invariant_of-self
