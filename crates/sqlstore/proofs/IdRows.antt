@@ -33,7 +33,8 @@ use Rattle.index.proofs.PagePlaces.{all_dropped}
 use Rattle.index.proofs.Spots.{at_in, each_in, from_directed}
 use Rattle.sqlstore.proofs.Cuts.{count_none, count_same, first_all, first_map, limited, none_limited, nothing_left}
 use Rattle.sqlstore.proofs.ListedRows.{listed_intact}
-use Rattle.sqlstore.proofs.TextBounds.{above_texts, at_most, behind, below, none_below}
+use Rattle.index.proofs.IdBounds.{at_most, below, none_below}
+use Rattle.sqlstore.proofs.TextBounds.{above_texts, behind}
 use Rattle.sqlstore.specs.inner.Listing.{all_count}
 use Rattle.sqlstore.specs.inner.ById.{IsHighIdBound, IsLiveRangeOf, IsLowIdBound, is_at_least, lies_above}
 

@@ -24,7 +24,7 @@ use Rattle.tables.proofs.Common.{filter_same}
 use Rattle.tables.proofs.RowMaps.{filter_both, find_found, mapped_some}
 use Rattle.tables.specs.Listings.{is_between}
 use Rattle.tables.specs.Schema.{decls_tree, entries_tree}
-use Rattle.sqlstore.proofs.TextBounds.{at_most}
+use Rattle.index.proofs.IdBounds.{at_most}
 use Rattle.sqlstore.specs.inner.Keys.{HasIndex, IsIndexRanks, entry_keys}
 use Rattle.sqlstore.specs.declared.index_ranks.IndexRanks.{IndexRanks}
 

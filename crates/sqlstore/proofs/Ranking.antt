@@ -13,7 +13,7 @@ use Rattle.tables.proofs.Sorted.{all_sorted, sorted_left}
 use Rattle.tables.specs.Listings.{has_mark, is_marked_between, live_range, marked_count}
 use Rattle.std.proofs.Math.Nat.{ℕ_set}
 use Rattle.sqlstore.proofs.IdRows.{counted}
-use Rattle.sqlstore.proofs.TextBounds.{at_most}
+use Rattle.index.proofs.IdBounds.{at_most}
 use Rattle.sqlstore.specs.inner.Listing.{all_count, live_ids}
 
 -- ---- lists
