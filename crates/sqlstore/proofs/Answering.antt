@@ -1,5 +1,5 @@
 -- What a reader of a store answers, from what it read, and what it leaves.
-use Rattle.sqlstore.proofs.Common.{AllByRecursion, Answers, Bool, Damaged, DatabaseNumbers, Err, FoundValues, Ghosts, IsDatabaseRow, IsKnown, IsWellFormed, IsRead, IsShownDatabase, IsShownLocal, IsStanding, IsTrue, KnownDatabase, List, Memory, NoDatabase, None, NumberValues, Ok, OnlyReads, Option, Result, Row, Some, SqlStore, Stands, StoreFault, Trees, WasStore, [], all-filter, all-slice_get, all_map, ap, arith, contents_in, contents_of, database_of_row, dbs_tree, false, filter, found_in, found_shown, get, inl, inr, is_honest, is_named, is_row_of_document, is_security, length, local_at, local_of, local_shown, locals_tree, map, next_number, numbers_in, option_map, refl, shown_database, shown_local, slice_get, state, subst, sym, trees_of, ℕ, ∥∥₁_elim, ∥∥₁_map, ◌+◌, ◌<◌, ◌^◌, ◌∙◌, ◌∷◌, ◌≡◌, ◌≤◌}
+use Rattle.sqlstore.proofs.Common.{AllByRecursion, Answers, Bool, Damaged, DatabaseNumbers, Err, FoundValues, Ghosts, IsDatabaseRow, IsKnown, IsPermutation, IsWellFormed, IsRead, IsShownDatabase, IsShownLocal, IsStanding, IsTrue, KnownDatabase, List, Memory, NoDatabase, None, NumberValues, Ok, OnlyReads, Option, Result, Row, Some, SqlStore, Stands, StoreFault, Trees, WasStore, [], all-filter, all-slice_get, all_map, ap, arith, contents_in, contents_of, database_of_row, dbs_tree, false, filter, found_in, found_shown, get, inl, inr, is_honest, is_named, is_row_of_document, is_security, length, local_at, local_of, local_shown, locals_tree, map, next_number, numbers_in, option_map, refl, shown_database, shown_local, slice_get, state, subst, sym, trees_of, ℕ, ∥∥₁_elim, ∥∥₁_map, ∥∥₁_prop, ◌+◌, ◌<◌, ◌^◌, ◌∙◌, ◌∷◌, ◌≡◌, ◌≤◌}
 use Rattle.store.specs.Causes.{HasFailed}
 use Rattle.store.specs.Database.{Database}
 use Rattle.sqlite_sql.specs.Ops.{fits_i64}
@@ -61,6 +61,16 @@ module _ {S : Type 0} (g : Ghosts S) where
   -- the rows of an honest store are laid out
   pub laid : (s : SqlStore S g) → is_honest g s → ∥ IsWellFormed (trees_of g s) ∥₁
   laid s honest = ∥∥₁_map (s.standing.held honest.0 honest.1) (λ holds. holds.store.laid)
+
+  -- what is read of the rows of a document, which a query gave in any order
+  pub answered_unordered : {X A : Type 0} (s end : SqlStore S g) (view : X → A) (defined said : Option A) (intact : Type 0) (shown : List ℕ → List Row) (key id : List ℕ) (rows : List Row) (r : Result X StoreFault) → IsRead view said intact r → Stands g s end
+      → (is_honest g end → ∥ IsPermutation (shown key) rows ∥₁) → key ≡ id → IsProp (defined ≡ said) → (IsWellFormed (trees_of g s) → IsPermutation (shown id) rows → intact × (defined ≡ said)) → Answers g s end view defined r
+  answered_unordered s end view defined said intact shown key id rows r read stands found is set so = answered g s end view defined said intact r read (λ honest.
+      let all : ∥ intact × (defined ≡ said) ∥₁ =
+      ∥∥₁_elim (laid s (was_honest g s end stands honest)) ∥∥₁_prop (λ l. ∥∥₁_map (found honest) (λ same. so l (subst (λ k. IsPermutation (shown k) rows) is same))) in (
+        (λ none. ∥∥₁_elim all (λ p q. absurd p) (λ it. none it.0)),
+        ∥∥₁_elim all set (λ it. it.1),
+      ))
 
 -- the rows that the query of a database shows are intact, and say what is found
 pub database_read : {S : Type 0} (g : Ghosts S) (s : SqlStore S g) (name : List ℕ) (rows : List Row) → is_honest g s → rows ≡ map shown_database (filter (is_named name) (trees_of g s dbs_tree))

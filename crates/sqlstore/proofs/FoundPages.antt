@@ -1,5 +1,5 @@
 -- The pages of a database that is found by its name are those of the rows of its number.
-use Rattle.sqlstore.proofs.Common.{Coded-set, Document, Ghosts, IsDatabaseRow, IsWellFormed, List, NumberValues, SeqRange, Some, SqlStore, Stands, Trees, all-filter, all-slice_get, ap, content_code, contents_in, database_of_row, dbs_tree, document_counts, false, filter, history_at, history_in_rows, id_page, if_counted, in_sequence, index_fields_of, index_rows, is_honest, is_named, key_page, leaves_row, sequence_of_database, listed_by_id, listed_by_sequence, listed_counts, live_rows, map, number_of, numbers_in, option_map, page_by_sequence, page_of_ids, page_of_keys, page_with_leaves, revs_tree, rows_of, sequence_page, sequence_row, slice_get, subst, sym, trees_of, true, winners_page, ℕ, ∥∥₁_elim, ◌<◌, ◌^◌, ◌∙◌, ◌≡◌}
+use Rattle.sqlstore.proofs.Common.{Answers, Coded-set, Document, Ghosts, IsDatabaseRow, IsWellFormed, List, NumberValues, Result, SeqRange, Some, SqlStore, Stands, StoreFault, Trees, all-filter, all-slice_get, ap, content_code, contents_in, contents_of, database_of_row, dbs_tree, document_counts, false, filter, history_at, history_in_rows, id_page, if_counted, in_sequence, index_fields_of, index_rows, is_honest, is_named, key_page, leaves_row, sequence_of_database, listed_by_id, listed_by_sequence, listed_counts, live_rows, map, number_of, numbers_in, option_map, page_by_sequence, page_of_ids, page_of_keys, page_with_leaves, revs_tree, rows_of, sequence_page, sequence_row, slice_get, subst, sym, trees_of, true, winners_page, ℕ, ∥∥₁_elim, ◌<◌, ◌^◌, ◌∙◌, ◌≡◌}
 use Rattle.std.specs.FinMap as finite
 use Rattle.store.specs.Database.{Database}
 use Rattle.store.specs.declared.index_page.KeyRange.{KeyRange}
@@ -8,7 +8,7 @@ use Rattle.tables.proofs.ListingRows.{counts_by_sequence, leaves_by_sequence, li
 use Rattle.tables.proofs.Lookups.{document_found}
 use Rattle.tree.specs.Outline.{marked_winner, outline_of}
 use Rattle.tree.specs.Revision.{Revision}
-use Rattle.sqlstore.proofs.Afterwards.{stands_same}
+use Rattle.sqlstore.proofs.Afterwards.{afterwards, stands_same}
 use Rattle.sqlstore.proofs.Answering.{IsThere, laid, there, was_honest}
 use Rattle.sqlstore.proofs.ListedRows.{counts_set, id_rows_set, leaves_rows, page_kept, sequence_rows_set}
 
@@ -22,6 +22,15 @@ pub found_at : {S A : Type 0} (g : Ghosts S) (old mid : SqlStore S g) (name : Li
     → {defined : A} (said : Trees → A) → (∥ IsWellFormed (trees_of g old) ∥₁ → IsThere numbers_in (trees_of g old) name k → defined ≡ said (trees_of g old)) → defined ≡ said (trees_of g mid)
 found_at g old mid name k stood honest found said is =
     is (laid g old (was_honest g old mid stood honest)) (there numbers_in (trees_of g old) name k found) ∙ ap said (sym (stands_same g old mid stood))
+
+-- what the next reader answers of it is answered of the database
+pub found_then : {S X A : Type 0} (g : Ghosts S) (old mid new : SqlStore S g) (name : List ℕ) (k : NumberValues) (view : X → A) (f : Database → A) (said : Trees → A) (r : Result X StoreFault) → Stands g old mid → Stands g mid new
+    → (is_honest g mid → option_map numbers_in (slice_get (filter (is_named name) (trees_of g old dbs_tree)) 0) ≡ Some k)
+    → (∥ IsWellFormed (trees_of g old) ∥₁ → IsThere numbers_in (trees_of g old) name k → option_map f (finite.get (contents_of g old) name) ≡ Some (said (trees_of g old)))
+    → Answers g mid new view (Some (said (trees_of g mid))) r → Answers g old new view (option_map f (finite.get (contents_of g old) name)) r
+found_then g old mid new name k view f said r stood further found is =
+    afterwards g old mid new view (Some (said (trees_of g mid))) (option_map f (finite.get (contents_of g old) name)) r stood
+    (λ honest. let was = was_honest g mid new further honest in found_at g old mid name k stood was (found was) (λ t. Some (said t)) is)
 
 module _ (trees : Trees) (name : List ℕ) (k : NumberValues) (lay : ∥ IsWellFormed trees ∥₁) (t : IsThere numbers_in trees name k) where
   -- ---- histories

@@ -1,5 +1,5 @@
 use Rattle.tree.specs.Outline.{outline_of}
-use Rattle.sqlstore.proofs.Lemmas.{DatabaseNumbers, Some, afterwards, found_at, history_in_rows, outline_there, not_found, numbers_in, revs_tree, rules, was_honest}
+use Rattle.sqlstore.proofs.Lemmas.{DatabaseNumbers, found_then, history_in_rows, not_found, numbers_in, outline_there, revs_tree, rules}
 use Rattle.sqlstore.proofs.sql_store.calls.SqlStoreStore.outline.Goals as goal
 
 pub returns-in_err-found-clause-answer : goal.returns-in_err-found-clause-answer
@@ -7,11 +7,5 @@ returns-in_err-found-clause-answer g c = not_found {X = DatabaseNumbers} g.S.Sto
 
 pub returns-clause-answer : goal.returns-clause-answer
 returns-clause-answer g c =
-    let mid = c.find.new.self in
-    let id = c.args.id.now in
-    let n = c.in_ok-found.found.number in
-    afterwards g.S.Store c.args.self.now mid c.find_outline.new.self (λ v. v) _ _ c.find_outline.result c.find.ensures.stands
-    (λ honest.
-    let was = was_honest g.S.Store mid c.find_outline.new.self c.find_outline.ensures.stands honest in
-    found_at g.S.Store c.args.self.now mid c.args.name.now _ c.find.ensures.stands was (c.in_ok-found.ensures.answer was) (λ t. Some (outline_of (history_in_rows (t revs_tree) n id))) (λ lay t. outline_there _ _ _ lay t id))
-    c.find_outline.ensures.answer
+    found_then g.S.Store c.args.self.now c.find.new.self c.find_outline.new.self c.args.name.now _ (λ v. v) _ (λ t. outline_of (history_in_rows (t revs_tree) c.in_ok-found.found.number c.args.id.now)) c.find_outline.result c.find.ensures.stands
+    c.find_outline.ensures.stands c.in_ok-found.ensures.answer (λ lay t. outline_there _ _ _ lay t c.args.id.now) c.find_outline.ensures.answer
