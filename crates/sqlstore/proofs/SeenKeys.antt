@@ -1,7 +1,7 @@
 -- What the rows of a document say of what queries see of it, and of the key that it has in an index.
 use Rattle.std.proofs.Common.{ap₂, cond, false, true}
 use Rattle.std.specs.Prelude.{is_some, option_and_then, ◌||◌}
-use Rattle.sqlstore.proofs.Common.{Bool, Document, HistoryContent, IsDocumentRow, IsWellFormed, List, None, Option, Row, Some, Trees, ap, db_of, docs_tree, document_of_row, find, history_in_rows, id_of, inside, is_row_of_document, option_map, queried_document, refl, revs_tree, sym, ℕ, ℤ, ◌∙◌, ◌≡◌}
+use Rattle.sqlstore.proofs.Common.{Bool, Document, HistoryContent, IsDocumentRow, IsWellFormed, List, None, Option, Row, Some, Trees, ap, db_of, docs_tree, document_of_row, find, history_in_rows, id_of, is_row_of_document, option_map, queried_document, refl, revs_tree, sym, ℕ, ℤ, ◌∙◌, ◌≡◌}
 use Rattle.std.specs.FinMap as finite
 use Rattle.couch_json.specs.Value.{Value}
 use Rattle.index.specs.Meaning.{key_if_seen}
@@ -105,20 +105,19 @@ module _ (trees : Trees) (db : ℤ) (id : List ℕ) (l : IsWellFormed trees) whe
 
 -- ---- keys
 
--- the key that was made of what is seen is that of the document
-pub key_made : {X : Type 0} (shown : X → Value) (fields : List (List ℕ)) (id : List ℕ) (found : Option (Option X)) (o : Option Document) → option_map (option_map shown) found ≡ option_map (λ (d : Document). queried_document id d.history) o
-    → option_map (λ (x : Option X). key_if_seen fields (option_map shown x)) found ≡ option_map (λ (d : Document). document_key fields id (Some d)) o
-key_made shown fields id found o is =
-    sym (mapped_twice (option_map shown) (key_if_seen fields) found)
-    ∙ ap (option_map (key_if_seen fields)) is
-    ∙ mapped_twice (λ (d : Document). queried_document id d.history) (key_if_seen fields) o
+module _ (id : List ℕ) (seen : Option (Option Value)) (o : Option Document) (is : seen ≡ option_map (λ (d : Document). queried_document id d.history) o) where
+  -- the key that was made of what is seen is that of the document
+  pub key_made : (fields : List (List ℕ)) → option_and_then (key_if_seen fields) seen ≡ document_key fields id o
+  key_made fields = ap (option_and_then (key_if_seen fields)) is ∙ by o
+    where
+      by : (o : Option Document) → option_and_then (key_if_seen fields) (option_map (λ (d : Document). queried_document id d.history) o) ≡ document_key fields id o
+      by None = refl
+      by (Some d) = refl
 
--- a document that was never written has no key
-pub key_there : (fields : List (List ℕ)) (id : List ℕ) (o : Option Document) → option_and_then (λ (k : Option (List ℕ)). k) (option_map (λ (d : Document). document_key fields id (Some d)) o) ≡ document_key fields id o
-key_there fields id None = refl
-key_there fields id (Some d) = refl
-
--- one whose key is known is there
-pub key_of_written : (fields : List (List ℕ)) (id : List ℕ) (o : Option Document) (key : Option (List ℕ)) → option_map (λ (d : Document). document_key fields id (Some d)) o ≡ Some key → (is_some o ≡ true) × (key ≡ document_key fields id o)
-key_of_written fields id None key is = absurd (cc)
-key_of_written fields id (Some d) key is = (refl, sym (inside _ _ is))
+  -- the document is there where what is seen is that of one that was written
+  pub seen_there : is_some seen ≡ true → is_some o ≡ true
+  seen_there there = by o (sym (ap is_some is) ∙ there)
+    where
+      by : (o : Option Document) → is_some (option_map (λ (d : Document). queried_document id d.history) o) ≡ true → is_some o ≡ true
+      by None there = there
+      by (Some d) there = refl

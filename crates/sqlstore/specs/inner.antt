@@ -6,6 +6,7 @@ pub mod Marks
 pub mod Keys
 pub mod CountedKeys
 pub mod Designs
+pub mod Seen
 pub mod Commits
 pub mod ById
 pub mod ByKey

@@ -9,6 +9,7 @@ mod earlier;
 mod entry_key;
 mod fault;
 mod first_rows;
+mod found;
 mod id_bounds;
 mod in_memory;
 mod index_ranks;
@@ -26,6 +27,7 @@ mod moved_keys;
 mod moved_ranks;
 mod open_fault;
 mod opening;
+mod seen;
 mod sql_store;
 
 pub use in_memory::MemoryStore;

@@ -3,24 +3,25 @@
 //!
 //! Ranks are an aid: what can't be found drops them, and refuses no write.
 
-ghost use Rattle.std.specs.Prelude.{◌≡◌, ◌||◌, ℕ, IfOk, IfSome, List, Some, if◌then◌else◌, option_map};
+ghost use Rattle.std.specs.Prelude.{◌≡◌, ◌||◌, ℕ, IfOk, IfSome, List, Some, if◌then◌else◌, is_some, option_map, true};
 ghost use Rattle.std.specs.BTreeMap as tree;
 ghost use Rattle.std.specs.Cmp.Lexicographic.{slice_cmp};
 ghost use Rattle.std.specs.List.{AllByRecursion};
 ghost use Rattle.std.specs.Ordering.{is_eq, nat_cmp};
-ghost use Rattle.couch_json.specs.View.{view};
 ghost use Rattle.store.specs.Indexes.{queried_document};
 ghost use Rattle.tree.specs.DocumentId.{is_design_id};
 
-use crate::document_keys::{copy_key, key_or_none, make_key_of_seen, put_key};
+use crate::document_keys::{copy_key, make_key_of_seen};
 use crate::entry_key::EntryKey;
+use crate::found::put_found;
 use crate::index_ranks::IndexRanks;
 use crate::key_change::KeyChange;
 use crate::known_database::{KnownDatabase, keep_index_ranks, take_index_ranks};
 use crate::known_indexes::has_index;
 use crate::moved_keys::move_keys;
+use crate::seen::Seen;
 use crate::sql_store::SqlStore;
-use couch_json::{FieldPath, Json};
+use couch_json::FieldPath;
 use sqlite::Alter;
 use std::collections::BTreeMap;
 use store::{StoreFault, Write, take_winner};
@@ -52,42 +53,28 @@ impl<S: Alter> SqlStore<S> {
     ghost use Rattle.sqlstore.specs.inner.CountedKeys.{AreCounted, AreMoved, IsCounted, IsFound, IsMoved};
     ghost use Rattle.sqlstore.specs.inner.Keys.{AreIndexRanks, AreKeyChanges, AreKeys, AreKnownRanks, IsIndexRanks, document_key};
     ghost use Rattle.sqlstore.specs.inner.Marks.{KeepsElsewhere, documents_at, ids_of};
+    ghost use Rattle.sqlstore.specs.inner.Seen.{values_seen};
     ghost use Rattle.sqlstore.specs.Model.{Stands, is_honest, trees_of};
     ghost use Rattle.sqlstore.specs.Standing.{IsKnown};
 
     // ---- one document
 
-    /// Finds what queries see of a document, if it was ever written.
-    fn find_seen(&mut self, number: &i64, id: &DocId) -> Result<Option<Option<Json>>, StoreFault>
-        ensures seen { is_honest S.Store self.new → IfOk result (λ seen. option_map (option_map view) seen
+    /// Finds what queries see of a document.
+    fn find_seen(&mut self, number: &i64, id: &DocId) -> Result<Seen, StoreFault>
+        ensures seen { is_honest S.Store self.new → IfOk result (λ seen. values_seen seen
             ≡ option_map (λ d. queried_document id.now d.history) (map.get (documents_at (trees_of S.Store self.old) number.now) id.now)) }
         ensures stands { Stands S.Store self.old self.new }
     {
         let Some(winner) = self.find_winner(number, id)? else {
-            return Ok(None);
+            return Ok(Seen::Unwritten);
         };
         if is_unseen(&winner, id) {
-            return Ok(Some(None));
+            return Ok(Seen::Hidden);
         }
         let known = self.find_revision(number, id, &winner.rev)?;
         let body = take_winner(known, false)?;
         let document = show(self.alloc, id, &winner.rev, false, &body)?;
-        Ok(Some(Some(document)))
-    }
-
-    /// Finds the key that a document has in an index of these fields, if it was ever written.
-    fn find_key(
-        &mut self,
-        number: &i64,
-        fields: &[FieldPath],
-        id: &DocId,
-    ) -> Result<Option<Option<EntryKey>>, StoreFault>
-        ensures key { is_honest S.Store self.new → IfOk result (λ key. key
-            ≡ option_map (λ d. document_key fields.now id.now (Some d)) (map.get (documents_at (trees_of S.Store self.old) number.now) id.now)) }
-        ensures stands { Stands S.Store self.old self.new }
-    {
-        let seen = self.find_seen(number, id)?;
-        Ok(make_key_of_seen(self.alloc, fields, &seen)?)
+        Ok(Seen::Shown(document))
     }
 
     // ---- before the commit
@@ -105,8 +92,9 @@ impl<S: Alter> SqlStore<S> {
     {
         let mut keys = BTreeMap::new(self.alloc);
         for write in writes {
-            let found = self.find_key(number, fields, &write.id)?;
-            let _was = put_key(self.alloc, &mut keys, &write.id, key_or_none(found))?;
+            let seen = self.find_seen(number, &write.id)?;
+            let key = make_key_of_seen(self.alloc, fields, &seen)?;
+            let _was = put_found(self.alloc, &mut keys, &write.id, key)?;
         }
         Ok(keys)
     }
@@ -176,19 +164,22 @@ impl<S: Alter> SqlStore<S> {
     ) -> Result<KeyChange, StoreFault>
         ensures id { IfOk result (λ c. c.id ≡ id.now) }
         ensures was { IfOk result (λ c. tree.get (slice_cmp nat_cmp) keys.old id.now ≡ Some c.was) }
+        ensures written { is_honest S.Store self.new
+            → IfOk result (λ _. is_some (map.get (documents_at (trees_of S.Store self.old) number.now) id.now) ≡ true) }
         ensures is { is_honest S.Store self.new
-            → IfOk result (λ c. option_map (λ d. document_key fields.now id.now (Some d))
-            (map.get (documents_at (trees_of S.Store self.old) number.now) id.now) ≡ Some c.is) }
+            → IfOk result (λ c. c.is ≡ document_key fields.now id.now (map.get (documents_at (trees_of S.Store self.old) number.now) id.now)) }
         ensures put { IfOk result
             (λ c. (q : List ℕ) → tree.get
             (slice_cmp nat_cmp) keys.new q ≡ (if is_eq (slice_cmp nat_cmp id.now q) then Some c.is else tree.get (slice_cmp nat_cmp) keys.old q)) }
         ensures stands { Stands S.Store self.old self.new }
     {
-        let Some(is) = self.find_key(number, fields, id)? else {
+        let seen = self.find_seen(number, id)?;
+        if !seen.is_written() {
             return Err(StoreFault::Damaged);
-        };
+        }
+        let is = make_key_of_seen(self.alloc, fields, &seen)?;
         let copy = copy_key(self.alloc, &is)?;
-        let Some(was) = put_key(self.alloc, keys, id, copy)? else {
+        let Some(was) = put_found(self.alloc, keys, id, copy)? else {
             return Err(StoreFault::Damaged);
         };
         let id = id.copy(self.alloc)?;

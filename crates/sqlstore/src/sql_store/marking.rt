@@ -8,15 +8,14 @@ ghost use Rattle.std.specs.Ordering.{is_eq, nat_cmp};
 ghost use Rattle.sqlite_trees.specs.Tree.{Trees};
 ghost use Rattle.sqlstore.specs.inner.Marks.{AreCountsAt};
 
+use crate::found::put_found;
 use crate::known_counts::KnownCounts;
 use crate::known_database::{find_counts, keep_counts, keep_ranks, take_ranks};
 use crate::marked::Marked;
 use crate::moved_ranks::move_ranks;
 use crate::sql_store::SqlStore;
-use couch_json::Got;
 use ranks::Ranks;
 use sqlite::Alter;
-use std::alloc::Global;
 use std::collections::BTreeMap;
 use store::{StoreFault, Write};
 use tree::{DocId, MarkedRev};
@@ -55,21 +54,6 @@ fn mark_of_winner(winner: &Option<MarkedRev>) -> Option<bool>
     }
 }
 
-/// Puts in the mark of a document, and returns the one that was there.
-fn put_mark(
-    alloc: Global,
-    marks: &mut BTreeMap<DocId, Option<bool>>,
-    id: &DocId,
-    mark: Option<bool>,
-) -> Got<Option<Option<bool>>>
-    ensures was { IfOk result (λ was. was ≡ tree.get (slice_cmp nat_cmp) marks.old id.now) }
-    ensures put { IfOk result
-        (λ _. (q : List ℕ) → tree.get
-        (slice_cmp nat_cmp) marks.new q ≡ (if is_eq (slice_cmp nat_cmp id.now q) then Some mark else tree.get (slice_cmp nat_cmp) marks.old q)) }
-{
-    Ok(marks.insert(id.copy(alloc)?, mark)?)
-}
-
 impl<S: Alter> SqlStore<S> {
     ghost use Rattle.std.specs.FinMap as map;
     ghost use Rattle.ranks.specs.Counts.{AreRanksOf};
@@ -100,7 +84,7 @@ impl<S: Alter> SqlStore<S> {
         let mut marks = BTreeMap::new(self.alloc);
         for write in writes {
             let mark = self.find_mark(number, &write.id)?;
-            let _was = put_mark(self.alloc, &mut marks, &write.id, mark)?;
+            let _was = put_found(self.alloc, &mut marks, &write.id, mark)?;
         }
         Ok(marks)
     }
@@ -160,7 +144,7 @@ impl<S: Alter> SqlStore<S> {
         let Some(is) = self.find_mark(number, id)? else {
             return Err(StoreFault::Damaged);
         };
-        let Some(was) = put_mark(self.alloc, marks, id, Some(is))? else {
+        let Some(was) = put_found(self.alloc, marks, id, Some(is))? else {
             return Err(StoreFault::Damaged);
         };
         let id = id.copy(self.alloc)?;

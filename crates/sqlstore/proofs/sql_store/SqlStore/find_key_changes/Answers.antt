@@ -1,9 +1,9 @@
 use Rattle.std.specs.FinMap as finite
 use Rattle.std.proofs.lemmas.List.{take_all, take_more}
-use Rattle.sqlstore.proofs.Common.{Document, Some, option_map, subst, take}
-use Rattle.sqlstore.proofs.Lemmas.{Trees, [], ap, arith, map-append, refl, stands_same, stands_then, sym, trees_of, was_honest, ◌++◌, ◌∙◌, ◌∷◌}
+use Rattle.std.specs.Prelude.{is_some, true}
+use Rattle.sqlstore.proofs.Common.{subst, take}
+use Rattle.sqlstore.proofs.Lemmas.{Trees, [], ap, arith, map-append, refl, stands_same, stands_then, sym, trees_of, was_honest, ◌++◌, ◌∙◌, ◌∷◌, ◌≡◌}
 use Rattle.sqlstore.proofs.KeyChanges.{key_changed_at}
-use Rattle.sqlstore.proofs.SeenKeys.{key_of_written}
 use Rattle.sqlstore.proofs.MarkChanges.{IsMixed, mixed_all, mixed_none}
 use Rattle.sqlstore.specs.inner.Keys.{AreKeyChanges, document_key}
 use Rattle.sqlstore.specs.inner.Marks.{documents_at, ids_of}
@@ -36,9 +36,10 @@ loop-write-preserved g c =
       stands = stands_then g.S.Store s mid end inv.stands e.stands;
       so_far = λ honest old keys.
           let before = inv.so_far (was_honest g.S.Store mid end e.stands honest) old keys in
-          let is = ap (λ (t : Trees). option_map (λ (d : Document). document_key fields w.id (Some d)) (finite.get (documents_at t n) w.id)) (sym (stands_same g.S.Store s mid inv.stands)) ∙ e.is honest in
-          let written = key_of_written fields w.id (finite.get documents w.id) one.is is in
-          let next = key_changed_at fields c.loop-write.keys c.find_key_change.new.keys (ids_of (take i ws)) c.loop-write.changes.items one old documents before.0 w.id e.id e.put e.was written.0 written.1 before.1 before.2 before.3 in (
+          let same = stands_same g.S.Store s mid inv.stands in
+          let written = subst (λ (t : Trees). is_some (finite.get (documents_at t n) w.id) ≡ true) same (e.written honest) in
+          let is = e.is honest ∙ ap (λ (t : Trees). document_key fields w.id (finite.get (documents_at t n) w.id)) same in
+          let next = key_changed_at fields c.loop-write.keys c.find_key_change.new.keys (ids_of (take i ws)) c.loop-write.changes.items one old documents before.0 w.id e.id e.put e.was written is before.1 before.2 before.3 in (
             next.0,
             subst (λ l. AreKeyChanges fields l old next.0) (sym c.in_ok-push.ensures.items) next.1,
             next.2,

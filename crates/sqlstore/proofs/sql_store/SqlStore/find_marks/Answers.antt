@@ -20,6 +20,6 @@ loop-write-preserved g c =
     record {
       stands = stands_then g.S.Store s mid end inv.stands e.stands;
       marks = λ honest.
-          marks_put c.loop-write.marks c.put_mark.new.marks documents documents id c.in_ok-mark.mark c.in_ok-_was.ensures.put (inv.marks (was_honest g.S.Store mid end e.stands honest))
+          marks_put c.loop-write.marks c.put_found.new.found documents documents id c.in_ok-mark.mark c.in_ok-_was.ensures.put (inv.marks (was_honest g.S.Store mid end e.stands honest))
           (e.mark honest ∙ ap (λ (t : Trees). mark_of (finite.get (documents_at t n) id)) (stands_same g.S.Store s mid inv.stands)) (λ q apart. refl);
     }
