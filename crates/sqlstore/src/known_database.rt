@@ -22,7 +22,6 @@ use tables::FoundDatabase;
 
 /// A database and what its row says, how many documents it has, the ranks of their ids, its indexes, the
 /// ranks of the keys that these have, and its design documents.
-#[derive(Drop)]
 pub(crate) struct KnownDatabase {
     /// Its name.
     pub(crate) name: DbName,
@@ -40,6 +39,22 @@ pub(crate) struct KnownDatabase {
     pub(crate) index_ranks: Option<Vec<IndexRanks>>,
     /// Its design documents, where they were read.
     pub(crate) designs: Option<Vec<KnownDesign>>,
+}
+
+// Written out, so that callers do not prove again how each part is dropped.
+impl Drop for KnownDatabase {
+    fn drop(self) {
+        let KnownDatabase {
+            name: _,
+            found: _,
+            live: _,
+            deleted: _,
+            ranks: _,
+            indexes: _,
+            index_ranks: _,
+            designs: _,
+        } = self;
+    }
 }
 
 /// The number of a database and its sequence.
@@ -67,27 +82,15 @@ impl KnownDatabase {
     pub(crate) fn at_sequence(self, sequence: u64, indexes: Vec<Declaration>) -> KnownDatabase
         ensures { result ≡ at_sequence sequence indexes self }
     {
-        let KnownDatabase {
-            name,
-            mut found,
-            live: _,
-            deleted: _,
-            ranks: _,
-            indexes: _,
-            index_ranks: _,
-            designs: _,
-        } = self;
-        found.sequence = sequence;
-        KnownDatabase {
-            name,
-            found,
-            live: None,
-            deleted: None,
-            ranks: None,
-            indexes: Some(indexes),
-            index_ranks: None,
-            designs: None,
-        }
+        let mut known = self;
+        known.found.sequence = sequence;
+        known.live = None;
+        known.deleted = None;
+        known.ranks = None;
+        known.indexes = Some(indexes);
+        known.index_ranks = None;
+        known.designs = None;
+        known
     }
 
     /// Parts it from its indexes. The ranks of their keys are forgotten, and its design documents.
@@ -95,26 +98,10 @@ impl KnownDatabase {
         ensures known { result.0 ≡ without_indexes self }
         ensures indexes { result.1 ≡ self.indexes }
     {
-        let KnownDatabase {
-            name,
-            found,
-            live,
-            deleted,
-            ranks,
-            indexes,
-            index_ranks: _,
-            designs: _,
-        } = self;
-        let known = KnownDatabase {
-            name,
-            found,
-            live,
-            deleted,
-            ranks,
-            indexes: None,
-            index_ranks: None,
-            designs: None,
-        };
+        let mut known = self;
+        let indexes = known.indexes.take();
+        known.index_ranks = None;
+        known.designs = None;
         (known, indexes)
     }
 
@@ -196,26 +183,10 @@ impl KnownDatabase {
     fn with_counts(self, counts: KnownCounts) -> KnownDatabase
         ensures { result ≡ with_counts counts self }
     {
-        let KnownDatabase {
-            name,
-            found,
-            live: _,
-            deleted: _,
-            ranks,
-            indexes,
-            index_ranks,
-            designs,
-        } = self;
-        KnownDatabase {
-            name,
-            found,
-            live: counts.live,
-            deleted: counts.deleted,
-            ranks,
-            indexes,
-            index_ranks,
-            designs,
-        }
+        let mut known = self;
+        known.live = counts.live;
+        known.deleted = counts.deleted;
+        known
     }
 
     /// Makes of it what is known after the documents were counted whose winner is marked so.

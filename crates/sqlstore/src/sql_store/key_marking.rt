@@ -32,12 +32,29 @@ use tree::{DocId, MarkedRev, show};
 const MOST_WRITES: usize = 256;
 
 /// The ranks of an index, and the keys that the documents which are to be written have in it.
-#[derive(Drop)]
 pub(crate) struct CountedKeys {
     /// The index with its ranks.
     ranks: IndexRanks,
     /// The key of each document, if it has one.
     keys: BTreeMap<DocId, Option<EntryKey>>,
+}
+
+// Written out, so that callers do not prove again how each part is dropped.
+impl Drop for CountedKeys {
+    fn drop(self) {
+        let CountedKeys { ranks: _, keys: _ } = self;
+    }
+}
+
+impl CountedKeys {
+    /// Parts it into the index with its ranks, and the keys.
+    fn split(self) -> (IndexRanks, BTreeMap<DocId, Option<EntryKey>>)
+        ensures ranks { result.0 ≡ self.ranks }
+        ensures keys { result.1 ≡ self.keys }
+    {
+        let CountedKeys { ranks, keys } = self;
+        (ranks, keys)
+    }
 }
 
 /// Tells whether queries don't see the document of this winner: it is deleted, or a design document.
@@ -223,7 +240,7 @@ impl<S: Alter> SqlStore<S> {
             → IfSome result (λ r. IsMoved (trees_of S.Store self.old) number.now r) }
         ensures stands { Stands S.Store self.old self.new }
     {
-        let CountedKeys { ranks, keys } = counted;
+        let (ranks, keys) = counted.split();
         let IndexRanks { declaration, ranks } = ranks;
         if !has_index(known, number, &declaration) {
             return None;

@@ -21,7 +21,6 @@ use store::{StoreFault, Write};
 use tree::{DocId, MarkedRev};
 
 /// The counts of a database, its ranks, and the marks of the documents that are to be written in it.
-#[derive(Drop)]
 pub(crate) struct CountedMarks {
     /// Its counts.
     counts: KnownCounts,
@@ -29,6 +28,33 @@ pub(crate) struct CountedMarks {
     ranks: Option<Ranks>,
     /// Whether the winner of each document is deleted, if it was ever written.
     marks: BTreeMap<DocId, Option<bool>>,
+}
+
+// Written out, so that callers do not prove again how each part is dropped.
+impl Drop for CountedMarks {
+    fn drop(self) {
+        let CountedMarks {
+            counts: _,
+            ranks: _,
+            marks: _,
+        } = self;
+    }
+}
+
+impl CountedMarks {
+    /// Parts it into the counts, the ranks and the marks.
+    fn split(self) -> (KnownCounts, Option<Ranks>, BTreeMap<DocId, Option<bool>>)
+        ensures counts { result.0 ≡ self.counts }
+        ensures ranks { result.1 ≡ self.ranks }
+        ensures marks { result.2 ≡ self.marks }
+    {
+        let CountedMarks {
+            counts,
+            ranks,
+            marks,
+        } = self;
+        (counts, ranks, marks)
+    }
 }
 
 /// Returns the counts that are known, or that none is.
@@ -180,11 +206,7 @@ impl<S: Alter> SqlStore<S> {
             × KeepsElsewhere (ids_of writes.now) old (documents_at (trees_of S.Store self.old) number.now)) ∥₁ }
         ensures stands { Stands S.Store self.old self.new }
     {
-        let CountedMarks {
-            counts,
-            ranks,
-            marks,
-        } = counted;
+        let (counts, ranks, marks) = counted.split();
         if let Ok(changes) = self.find_changes(number, marks, writes) {
             let known = self.known.take();
             let known = keep_counts(known, number, counts.after(&changes));
