@@ -243,15 +243,9 @@ impl<S: Alter> SqlStore<S> {
         ensures bounded { IfSome result (λ n. n < 2 ^ 63 - 1) }
         ensures stands { Stands S.Store self.old self.new }
     {
-        let IndexRanks {
-            declaration: known,
-            mut ranks,
-        } = self.take_key_ranks(number, declaration)?;
-        let count = self.count_keys_within(&mut ranks, declaration, low, high, descending);
-        let index = IndexRanks {
-            declaration: known,
-            ranks,
-        };
+        let mut index = self.take_key_ranks(number, declaration)?;
+        let count =
+            self.count_keys_within(&mut index.ranks, declaration, low, high, descending);
         self.keep_key_ranks(number, index);
         count
     }

@@ -16,15 +16,15 @@ keep_key_ranks-requires g c honest =
     let two = c.count_keys_within-count.new.self in
     let n = c.args.number.now in
     let d = c.args.declaration.now in
-    let r = c.in_ok-known.field-0 in
+    let r = c.in_ok-index.index in
     let new : IndexRanks = record { declaration = r.declaration; ranks = c.count_keys_within-count.new.ranks } in
     let to_one = c.take_key_ranks.ensures.stands in
     let to_two = c.count_keys_within-count.ensures.stands in
     let at_one = was_honest g.S.Store one two to_two honest in
-    ∥∥₁_map (c.in_ok-known.ensures.ranks (was_honest g.S.Store s one to_one at_one))
+    ∥∥₁_map (c.in_ok-index.ensures.ranks (was_honest g.S.Store s one to_one at_one))
     (λ is.
     subst (λ (t : Trees). IsIndexRanks t n new) (sym (stands_same g.S.Store one two to_two))
-    (ranked_anew (trees_of g.S.Store one) n d r c.count_keys_within-count.new.ranks c.in_ok-known.ensures.named (c.count_keys_within-count.ensures.ranks honest)
+    (ranked_anew (trees_of g.S.Store one) n d r c.count_keys_within-count.new.ranks c.in_ok-index.ensures.named (c.count_keys_within-count.ensures.ranks honest)
     (subst (λ (t : Trees). IsIndexRanks t n r) (sym (stands_same g.S.Store s one to_one)) is)))
 
 pub returns-clause-count : goal.returns-clause-count
@@ -33,14 +33,14 @@ returns-clause-count g c honest =
     let one = c.take_key_ranks.new.self in
     let two = c.count_keys_within-count.new.self in
     let d = c.args.declaration.now in
-    let r = c.in_ok-known.field-0 in
+    let r = c.in_ok-index.index in
     let trees = trees_of g.S.Store s in
     let to_one = c.take_key_ranks.ensures.stands in
     let at_two = was_honest g.S.Store two c.keep_key_ranks.new.self c.keep_key_ranks.ensures honest in
     let at_one = was_honest g.S.Store one two c.count_keys_within-count.ensures.stands at_two in
     let same = stands_same g.S.Store s one to_one in
     let ranked : AreRanksOf r.ranks (entry_keys trees d) =
-    ∥∥₁_elim (c.in_ok-known.ensures.ranks (was_honest g.S.Store s one to_one at_one)) (ranks_prop r.ranks (entry_keys trees d))
-    (λ is. subst (λ m. AreRanksOf r.ranks (entry_keys trees m)) c.in_ok-known.ensures.named is.ranks) in
+    ∥∥₁_elim (c.in_ok-index.ensures.ranks (was_honest g.S.Store s one to_one at_one)) (ranks_prop r.ranks (entry_keys trees d))
+    (λ is. subst (λ m. AreRanksOf r.ranks (entry_keys trees m)) c.in_ok-index.ensures.named is.ranks) in
     subst (λ (t : Trees). IfSome c.count_keys_within-count.result (λ m. m ≡ count_of d c.args.low.now c.args.high.now (t entries_tree))) same
     (c.count_keys_within-count.ensures.count at_two (subst (λ (t : Trees). AreRanksOf r.ranks (entry_keys t d)) (sym same) ranked))
