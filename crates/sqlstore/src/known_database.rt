@@ -1,11 +1,11 @@
 //! What is known of a database from when it was last asked for.
 
-ghost use Rattle.std.specs.Prelude.{◌≡◌, IfSome, None};
+ghost use Rattle.std.specs.Prelude.{◌≡◌, IfSome};
 ghost use Rattle.ranks.specs.Counts.{AreRanksOf};
 ghost use Rattle.sqlite_trees.specs.Tree.{Trees};
 ghost use Rattle.sqlstore.specs.inner.Listing.{all_count, live_ids};
 ghost use Rattle.sqlstore.specs.inner.Marks.{AreCountsAt};
-ghost use Rattle.sqlstore.specs.inner.Reading.{at_sequence, count_kept, counts_of, with_count, with_counts, with_designs, with_index_ranks, with_ranks, without_indexes};
+ghost use Rattle.sqlstore.specs.inner.Reading.{at_sequence, count_kept, counts_of, with_count, without_indexes};
 ghost use Rattle.sqlstore.specs.inner.Designs.{AreKnownDesigns};
 ghost use Rattle.sqlstore.specs.inner.Keys.{AreKnownRanks};
 ghost use Rattle.sqlstore.specs.Standing.{IsKnown};
@@ -105,68 +105,22 @@ impl KnownDatabase {
         (known, indexes)
     }
 
-    /// Returns it with these ranks.
-    fn with_ranks(self, ranks: Option<Ranks>) -> KnownDatabase
-        ensures { result ≡ with_ranks ranks self }
-    {
-        let mut known = self;
-        known.ranks = ranks;
-        known
-    }
-
-    /// Parts it from its ranks.
-    fn split_ranks(self) -> (KnownDatabase, Option<Ranks>)
-        ensures known { result.0 ≡ with_ranks None self }
-        ensures ranks { result.1 ≡ self.ranks }
-    {
-        let mut known = self;
-        let ranks = known.ranks.take();
-        (known, ranks)
-    }
-
-    /// Returns it with these ranks of the keys of indexes.
-    fn with_index_ranks(self, ranks: Option<Vec<IndexRanks>>) -> KnownDatabase
-        ensures { result ≡ with_index_ranks ranks self }
-    {
-        let mut known = self;
-        known.index_ranks = ranks;
-        known
-    }
-
-    /// Parts it from the ranks of the keys of its indexes.
-    fn split_index_ranks(self) -> (KnownDatabase, Option<Vec<IndexRanks>>)
-        ensures known { result.0 ≡ with_index_ranks None self }
-        ensures ranks { result.1 ≡ self.index_ranks }
-    {
-        let mut known = self;
-        let ranks = known.index_ranks.take();
-        (known, ranks)
-    }
-
-    /// Returns it with these design documents.
-    fn with_designs(self, designs: Option<Vec<KnownDesign>>) -> KnownDatabase
-        ensures { result ≡ with_designs designs self }
-    {
-        let mut known = self;
-        known.designs = designs;
-        known
-    }
-
-    /// Parts it from its design documents.
-    fn split_designs(self) -> (KnownDatabase, Option<Vec<KnownDesign>>)
-        ensures known { result.0 ≡ with_designs None self }
-        ensures designs { result.1 ≡ self.designs }
-    {
-        let mut known = self;
-        let designs = known.designs.take();
-        (known, designs)
-    }
-
     /// Returns how many documents have a winner that is marked so, where that was counted.
     fn count(&self, deleted: bool) -> Option<DocumentCount>
         ensures { result ≡ count_kept deleted self.now }
     {
         if deleted { self.deleted } else { self.live }
+    }
+
+    /// Puts in the count of the documents whose winner is marked so.
+    fn put_count(&mut self, deleted: bool, count: DocumentCount)
+        ensures { self.new ≡ with_count deleted count self.old }
+    {
+        if deleted {
+            self.deleted = Some(count);
+        } else {
+            self.live = Some(count);
+        }
     }
 
     /// Returns both counts, each where it was counted.
@@ -176,42 +130,6 @@ impl KnownDatabase {
         KnownCounts {
             live: self.live,
             deleted: self.deleted,
-        }
-    }
-
-    /// Makes of it what is known with these counts.
-    fn with_counts(self, counts: KnownCounts) -> KnownDatabase
-        ensures { result ≡ with_counts counts self }
-    {
-        let mut known = self;
-        known.live = counts.live;
-        known.deleted = counts.deleted;
-        known
-    }
-
-    /// Makes of it what is known after the documents were counted whose winner is marked so.
-    fn with_count(self, deleted: bool, count: DocumentCount) -> KnownDatabase
-        ensures { result ≡ with_count deleted count self }
-    {
-        let KnownDatabase {
-            name,
-            found,
-            live,
-            deleted: gone,
-            ranks,
-            indexes,
-            index_ranks,
-            designs,
-        } = self;
-        KnownDatabase {
-            name,
-            found,
-            live: if deleted { live } else { Some(count) },
-            deleted: if deleted { Some(count) } else { gone },
-            ranks,
-            indexes,
-            index_ranks,
-            designs,
         }
     }
 }
@@ -230,19 +148,17 @@ pub(crate) fn find_counts(known: &Option<KnownDatabase>, number: &i64) -> Option
     Some(known.counts())
 }
 
-/// Returns what is known, with these counts of the database of this number, where it is the known one.
-pub(crate) fn keep_counts(
-    known: Option<KnownDatabase>,
-    number: &i64,
-    counts: KnownCounts,
-) -> Option<KnownDatabase>
-    ensures { (trees : Trees) → IsKnown trees known → AreCountsAt counts number.now trees → IsKnown trees result }
+/// Keeps these counts of the database of this number, where it is the known one.
+pub(crate) fn keep_counts(known: &mut Option<KnownDatabase>, number: &i64, counts: KnownCounts)
+    ensures { (trees : Trees) → IsKnown trees known.old → AreCountsAt counts number.now trees → IsKnown trees known.new }
 {
-    let known = known?;
-    if known.found.number != *number {
-        return Some(known);
+    match known {
+        Some(known) if known.found.number == *number => {
+            known.live = counts.live;
+            known.deleted = counts.deleted;
+        }
+        _ => {}
     }
-    Some(known.with_counts(counts))
 }
 
 /// Returns how many documents of the database of this number have a winner that is marked so, where that
@@ -261,21 +177,20 @@ pub(crate) fn find_count(
     known.count(deleted)
 }
 
-/// Returns what is known, with the count of the documents of the database of this number whose winner is
-/// marked so, where it is the known one.
+/// Keeps the count of the documents of the database of this number whose winner is marked so, where it is the
+/// known one.
 pub(crate) fn keep_count(
-    known: Option<KnownDatabase>,
+    known: &mut Option<KnownDatabase>,
     number: &i64,
     deleted: bool,
     count: DocumentCount,
-) -> Option<KnownDatabase>
-    ensures { (trees : Trees) → IsKnown trees known → count.value ≡ all_count trees number.now deleted → IsKnown trees result }
+)
+    ensures { (trees : Trees) → IsKnown trees known.old → count.value ≡ all_count trees number.now deleted → IsKnown trees known.new }
 {
-    let known = known?;
-    if known.found.number != *number {
-        return Some(known);
+    match known {
+        Some(known) if known.found.number == *number => known.put_count(deleted, count),
+        _ => {}
     }
-    Some(known.with_count(deleted, count))
 }
 
 /// Parts what is known from the indexes of the database of this number, where it is the known one.
@@ -296,104 +211,85 @@ pub(crate) fn take_indexes(
     (Some(known), indexes)
 }
 
-/// Parts what is known from the ranks of the database of this number, where it is the known one.
-pub(crate) fn take_ranks(
-    known: Option<KnownDatabase>,
-    number: &i64,
-) -> (Option<KnownDatabase>, Option<Ranks>)
-    ensures known { (trees : Trees) → IsKnown trees known → IsKnown trees result.0 }
-    ensures ranks { (trees : Trees) → IsKnown trees known → IfSome result.1 (λ r. AreRanksOf r (live_ids trees number.now)) }
+/// Takes out the ranks of the database of this number, where it is the known one.
+pub(crate) fn take_ranks(known: &mut Option<KnownDatabase>, number: &i64) -> Option<Ranks>
+    ensures known { (trees : Trees) → IsKnown trees known.old → IsKnown trees known.new }
+    ensures ranks { (trees : Trees) → IsKnown trees known.old → IfSome result (λ r. AreRanksOf r (live_ids trees number.now)) }
 {
-    let Some(known) = known else {
-        return (None, None);
-    };
-    if known.found.number != *number {
-        return (Some(known), None);
+    match known {
+        Some(KnownDatabase { found, ranks, .. }) if found.number == *number => ranks.take(),
+        _ => None,
     }
-    let (known, ranks) = known.split_ranks();
-    (Some(known), ranks)
 }
 
-/// Returns what is known, with these ranks of the database of this number, where it is the known one.
-pub(crate) fn keep_ranks(
-    known: Option<KnownDatabase>,
-    number: &i64,
-    ranks: Option<Ranks>,
-) -> Option<KnownDatabase>
-    ensures { (trees : Trees) → IsKnown trees known → IfSome ranks (λ r. AreRanksOf r (live_ids trees number.now)) → IsKnown trees result }
+/// Keeps these ranks of the database of this number, where it is the known one.
+pub(crate) fn keep_ranks(known: &mut Option<KnownDatabase>, number: &i64, ranks: Option<Ranks>)
+    ensures { (trees : Trees) → IsKnown trees known.old → IfSome ranks (λ r. AreRanksOf r (live_ids trees number.now)) → IsKnown trees known.new }
 {
-    let known = known?;
-    if *number != known.found.number {
-        return Some(known);
+    match known {
+        Some(known) if known.found.number == *number => known.ranks = ranks,
+        _ => {}
     }
-    Some(known.with_ranks(ranks))
 }
 
-/// Parts what is known from the ranks of the keys of the indexes of the database of this number, where it is
-/// the known one.
+/// Takes out the ranks of the keys of the indexes of the database of this number, where it is the known one.
 pub(crate) fn take_index_ranks(
-    known: Option<KnownDatabase>,
+    known: &mut Option<KnownDatabase>,
     number: &i64,
-) -> (Option<KnownDatabase>, Option<Vec<IndexRanks>>)
-    ensures known { (trees : Trees) → IsKnown trees known → IsKnown trees result.0 }
-    ensures ranks { (trees : Trees) → IsKnown trees known → AreKnownRanks trees number.now result.1 }
+) -> Option<Vec<IndexRanks>>
+    ensures known { (trees : Trees) → IsKnown trees known.old → IsKnown trees known.new }
+    ensures ranks { (trees : Trees) → IsKnown trees known.old → AreKnownRanks trees number.now result }
 {
-    let Some(known) = known else {
-        return (None, None);
-    };
-    if known.found.number != *number {
-        return (Some(known), None);
+    match known {
+        Some(
+            KnownDatabase {
+                found,
+                index_ranks,
+                ..
+            },
+        ) if found.number == *number => index_ranks.take(),
+        _ => None,
     }
-    let (known, ranks) = known.split_index_ranks();
-    (Some(known), ranks)
 }
 
-/// Returns what is known, with these ranks of the keys of indexes of the database of this number, where it is
-/// the known one.
+/// Keeps these ranks of the keys of indexes of the database of this number, where it is the known one.
 pub(crate) fn keep_index_ranks(
-    known: Option<KnownDatabase>,
+    known: &mut Option<KnownDatabase>,
     number: &i64,
     ranks: Option<Vec<IndexRanks>>,
-) -> Option<KnownDatabase>
-    ensures { (trees : Trees) → IsKnown trees known → AreKnownRanks trees number.now ranks → IsKnown trees result }
+)
+    ensures { (trees : Trees) → IsKnown trees known.old → AreKnownRanks trees number.now ranks → IsKnown trees known.new }
 {
-    let known = known?;
-    if known.found.number != *number {
-        return Some(known);
+    match known {
+        Some(known) if known.found.number == *number => known.index_ranks = ranks,
+        _ => {}
     }
-    Some(known.with_index_ranks(ranks))
 }
 
-/// Parts what is known from the design documents of the database of this number, where it is the known one.
+/// Takes out the design documents of the database of this number, where it is the known one.
 pub(crate) fn take_designs(
-    known: Option<KnownDatabase>,
+    known: &mut Option<KnownDatabase>,
     number: &i64,
-) -> (Option<KnownDatabase>, Option<Vec<KnownDesign>>)
-    ensures known { (trees : Trees) → IsKnown trees known → IsKnown trees result.0 }
-    ensures designs { (trees : Trees) → IsKnown trees known → AreKnownDesigns trees number.now result.1 }
+) -> Option<Vec<KnownDesign>>
+    ensures known { (trees : Trees) → IsKnown trees known.old → IsKnown trees known.new }
+    ensures designs { (trees : Trees) → IsKnown trees known.old → AreKnownDesigns trees number.now result }
 {
-    let Some(known) = known else {
-        return (None, None);
-    };
-    if known.found.number != *number {
-        return (Some(known), None);
+    match known {
+        Some(KnownDatabase { found, designs, .. }) if found.number == *number => designs.take(),
+        _ => None,
     }
-    let (known, designs) = known.split_designs();
-    (Some(known), designs)
 }
 
-/// Returns what is known, with these design documents of the database of this number, where it is the known
-/// one.
+/// Keeps these design documents of the database of this number, where it is the known one.
 pub(crate) fn keep_designs(
-    known: Option<KnownDatabase>,
+    known: &mut Option<KnownDatabase>,
     number: &i64,
     designs: Option<Vec<KnownDesign>>,
-) -> Option<KnownDatabase>
-    ensures { (trees : Trees) → IsKnown trees known → AreKnownDesigns trees number.now designs → IsKnown trees result }
+)
+    ensures { (trees : Trees) → IsKnown trees known.old → AreKnownDesigns trees number.now designs → IsKnown trees known.new }
 {
-    let known = known?;
-    if known.found.number != *number {
-        return Some(known);
+    match known {
+        Some(known) if known.found.number == *number => known.designs = designs,
+        _ => {}
     }
-    Some(known.with_designs(designs))
 }

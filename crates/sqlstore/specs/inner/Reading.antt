@@ -13,12 +13,9 @@ use Rattle.tables.specs.Schema.{dbs_tree}
 use Rattle.tables.specs.Shown.{revision_shown}
 use Rattle.tree.specs.Revision.{Revision}
 use Rattle.index.specs.declared.declaration.Declaration.{Declaration}
-use Rattle.ranks.specs.Seen.{Ranks}
 use Rattle.sqlstore.specs.declared.document_count.DocumentCount.{DocumentCount}
-use Rattle.sqlstore.specs.declared.index_ranks.IndexRanks.{IndexRanks}
 use Rattle.sqlstore.specs.declared.known_counts.KnownCounts.{KnownCounts}
 use Rattle.sqlstore.specs.declared.known_database.KnownDatabase.{KnownDatabase}
-use Rattle.sqlstore.specs.declared.known_design.KnownDesign.{KnownDesign}
 
 -- the number, the security object and the sequence of a database
 abbrev pub FoundValues : Type 0
@@ -58,22 +55,6 @@ with_count deleted count k = if deleted then record k { deleted = Some count } e
 -- both counts, each where it was counted
 abbrev pub counts_of : KnownDatabase → KnownCounts
 counts_of k = record { live = k.live; deleted = k.deleted }
-
--- the same database, with these counts
-abbrev pub with_counts : KnownCounts → KnownDatabase → KnownDatabase
-with_counts counts k = record k { live = counts.live; deleted = counts.deleted }
-
--- the same database, with these ranks
-abbrev pub with_ranks : Option Ranks → KnownDatabase → KnownDatabase
-with_ranks ranks k = record k { ranks = ranks }
-
--- the same database, with these ranks of the keys of its indexes
-abbrev pub with_index_ranks : Option (Vec IndexRanks Global) → KnownDatabase → KnownDatabase
-with_index_ranks ranks k = record k { index_ranks = ranks }
-
--- the same database, with these design documents
-abbrev pub with_designs : Option (Vec KnownDesign Global) → KnownDatabase → KnownDatabase
-with_designs designs k = record k { designs = designs }
 
 -- of what a query shows of its row
 abbrev pub found_shown : Row → FoundValues

@@ -64,8 +64,7 @@ impl<S: Alter> SqlStore<S> {
         let start = Vec::new(self.alloc);
         let end = above_all_ids(self.alloc)?;
         let value = self.count_marked(number, deleted, &start, &end)?;
-        let known = self.known.take();
-        self.known = keep_count(known, number, deleted, DocumentCount { value });
+        keep_count(&mut self.known, number, deleted, DocumentCount { value });
         Ok(value)
     }
 

@@ -126,8 +126,7 @@ impl<S: Alter> SqlStore<S> {
             return;
         };
         if are_short(self.alloc, &designs) {
-            let known = self.known.take();
-            self.known = keep_designs(known, number, Some(designs));
+            keep_designs(&mut self.known, number, Some(designs));
         }
     }
 
@@ -138,10 +137,7 @@ impl<S: Alter> SqlStore<S> {
         ensures designs { is_honest S.Store self.new → ∥ AreKnownDesigns (trees_of S.Store self.old) number.now result ∥₁ }
         ensures stands { Stands S.Store self.old self.new }
     {
-        let known = self.known.take();
-        let (known, designs) = take_designs(known, number);
-        self.known = known;
-        designs
+        take_designs(&mut self.known, number)
     }
 
     /// Puts back the design documents of a database that were known before these writes of it were
@@ -159,8 +155,7 @@ impl<S: Alter> SqlStore<S> {
         if writes_design(writes) {
             return;
         }
-        let known = self.known.take();
-        self.known = keep_designs(known, number, designs);
+        keep_designs(&mut self.known, number, designs);
     }
 
     // ---- the calls that read them

@@ -140,10 +140,7 @@ impl<S: Alter> SqlStore<S> {
         ensures ranks { is_honest S.Store self.new → ∥ AreKnownRanks (trees_of S.Store self.old) number.now result ∥₁ }
         ensures stands { Stands S.Store self.old self.new }
     {
-        let known = self.known.take();
-        let (known, ranks) = take_index_ranks(known, number);
-        self.known = known;
-        ranks
+        take_index_ranks(&mut self.known, number)
     }
 
     /// Takes out the ranks of the indexes of a database that are known, and finds the keys that the documents
@@ -290,8 +287,9 @@ impl<S: Alter> SqlStore<S> {
         let Some(counted) = counted else {
             return;
         };
-        let known = self.known.take();
+        let mut known = self.known.take();
         let moved = self.move_each_index(&known, number, counted, writes);
-        self.known = keep_index_ranks(known, number, moved.ok());
+        keep_index_ranks(&mut known, number, moved.ok());
+        self.known = known;
     }
 }

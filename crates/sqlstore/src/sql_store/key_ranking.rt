@@ -69,10 +69,9 @@ impl<S: Alter> SqlStore<S> {
         ensures named { IfSome result (λ r. r.declaration.number ≡ declaration.now) }
         ensures stands { Stands S.Store self.old self.new }
     {
-        let known = self.known.take();
-        let (known, all) = take_index_ranks(known, number);
+        let all = take_index_ranks(&mut self.known, number);
         let (rest, index) = part_index(all, declaration);
-        self.known = keep_index_ranks(known, number, rest);
+        keep_index_ranks(&mut self.known, number, rest);
         index
     }
 
@@ -81,9 +80,8 @@ impl<S: Alter> SqlStore<S> {
         requires { is_honest S.Store self.old → ∥ IsIndexRanks (trees_of S.Store self.old) number.now index ∥₁ }
         ensures { Stands S.Store self.old self.new }
     {
-        let known = self.known.take();
-        let (known, all) = take_index_ranks(known, number);
-        self.known = keep_index_ranks(known, number, put_index(self.alloc, all, index));
+        let all = take_index_ranks(&mut self.known, number);
+        keep_index_ranks(&mut self.known, number, put_index(self.alloc, all, index));
     }
 
     /// Makes the ranks of the keys of an index: one segment of all of them. `None` where they can't be counted.
@@ -244,8 +242,7 @@ impl<S: Alter> SqlStore<S> {
         ensures stands { Stands S.Store self.old self.new }
     {
         let mut index = self.take_key_ranks(number, declaration)?;
-        let count =
-            self.count_keys_within(&mut index.ranks, declaration, low, high, descending);
+        let count = self.count_keys_within(&mut index.ranks, declaration, low, high, descending);
         self.keep_key_ranks(number, index);
         count
     }

@@ -10,7 +10,7 @@ ghost use Rattle.sqlstore.specs.inner.Marks.{AreCountsAt};
 
 use crate::found::put_found;
 use crate::known_counts::KnownCounts;
-use crate::known_database::{find_counts, keep_counts, keep_ranks, take_ranks};
+use crate::known_database::{find_counts, keep_counts, keep_ranks};
 use crate::marked::Marked;
 use crate::moved_ranks::move_ranks;
 use crate::sql_store::SqlStore;
@@ -84,7 +84,6 @@ impl<S: Alter> SqlStore<S> {
     ghost use Rattle.std.specs.FinMap as map;
     ghost use Rattle.ranks.specs.Counts.{AreRanksOf};
     ghost use Rattle.store.specs.Database.{Document, TextMap};
-    ghost use Rattle.sqlstore.specs.inner.Listing.{live_ids};
     ghost use Rattle.sqlstore.specs.inner.Marks.{AreChanges, AreCounts, AreMarks, KeepsElsewhere, documents_at, ids_of, live_keys, mark_of};
     ghost use Rattle.sqlstore.specs.Model.{Stands, is_honest, trees_of};
 
@@ -115,17 +114,6 @@ impl<S: Alter> SqlStore<S> {
         Ok(marks)
     }
 
-    /// Takes out the ranks of the database of this number, where they are known.
-    fn part_ranks(&mut self, number: &i64) -> Option<Ranks>
-        ensures ranks { is_honest S.Store self.new → ∥ IfSome result (λ r. AreRanksOf r (live_ids (trees_of S.Store self.old) number.now)) ∥₁ }
-        ensures stands { Stands S.Store self.old self.new }
-    {
-        let known = self.known.take();
-        let (known, ranks) = take_ranks(known, number);
-        self.known = known;
-        ranks
-    }
-
     /// Finds the counts of a database that are known, takes out its ranks, and finds the marks of the
     /// documents that these writes are of; `None` where neither is known, or the marks are not found.
     pub(crate) fn find_counted(&mut self, number: &i64, writes: &[Write]) -> Option<CountedMarks>
@@ -135,7 +123,7 @@ impl<S: Alter> SqlStore<S> {
             × IfSome c.ranks (λ r. AreRanksOf r (live_keys (documents_at (trees_of S.Store self.old) number.now))) ∥₁) }
         ensures stands { Stands S.Store self.old self.new }
     {
-        let ranks = self.part_ranks(number);
+        let ranks = self.take_live_ranks(number);
         let counts = find_counts(&self.known, number);
         if counts.is_none() && ranks.is_none() {
             return None;
@@ -208,9 +196,8 @@ impl<S: Alter> SqlStore<S> {
     {
         let (counts, ranks, marks) = counted.split();
         if let Ok(changes) = self.find_changes(number, marks, writes) {
-            let known = self.known.take();
-            let known = keep_counts(known, number, counts.after(&changes));
-            self.known = keep_ranks(known, number, move_ranks(ranks, &changes));
+            keep_counts(&mut self.known, number, counts.after(&changes));
+            keep_ranks(&mut self.known, number, move_ranks(ranks, &changes));
         }
     }
 }

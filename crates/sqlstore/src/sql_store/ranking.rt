@@ -68,14 +68,11 @@ impl<S: Alter> SqlStore<S> {
     // ---- the ranks
 
     /// Takes out the ranks of a database that are known.
-    fn take_live_ranks(&mut self, number: &i64) -> Option<Ranks>
+    pub(crate) fn take_live_ranks(&mut self, number: &i64) -> Option<Ranks>
         ensures ranks { is_honest S.Store self.old → IfSome result (λ r. AreRanksOf r (live_ids (trees_of S.Store self.old) number.now)) }
         ensures stands { Stands S.Store self.old self.new }
     {
-        let known = self.known.take();
-        let (known, ranks) = take_ranks(known, number);
-        self.known = known;
-        ranks
+        take_ranks(&mut self.known, number)
     }
 
     /// Puts back the ranks of a database.
@@ -83,8 +80,7 @@ impl<S: Alter> SqlStore<S> {
         requires { is_honest S.Store self.old → AreRanksOf ranks (live_ids (trees_of S.Store self.old) number.now) }
         ensures { Stands S.Store self.old self.new }
     {
-        let known = self.known.take();
-        self.known = keep_ranks(known, number, Some(ranks));
+        keep_ranks(&mut self.known, number, Some(ranks));
     }
 
     /// Finds the ranks of a database: those that are known, or those of as many ids in one segment. `None`

@@ -24,10 +24,10 @@ invariant_of-self g c =
     let trees = trees_of g.S.Store s in
     let stands = c.count_marked.ensures.stands in
     record {
-      standing = known_so g.S.Store s mid c.keep_count.result stands (λ honest.
+      standing = known_so g.S.Store s mid c.keep_count.new.known stands (λ honest.
           ∥∥₁_elim (laid g.S.Store s (was_honest g.S.Store s mid stands honest)) ∥∥₁_prop (λ l.
           let counted = ap₂ (λ a b. marked_count n c.args.deleted a b (trees docs_tree)) (c.deref.ensures.value ∙ c.new-start.ensures.items) (c.deref-2.ensures.value ∙ c.in_ok-end.ensures) ∙ all_counted trees n l c.args.deleted in
-          ∥∥₁_map (subst (λ k. ∥ IsKnown trees k ∥₁) (sym c.take-known.ensures.value) (subst (λ h. ∥ IsKnown (state g.S.Store h).now.trees mid.known ∥₁) stands.last (mid.standing.known_so honest.0 honest.1)))
+          ∥∥₁_map (subst (λ h. ∥ IsKnown (state g.S.Store h).now.trees mid.known ∥₁) stands.last (mid.standing.known_so honest.0 honest.1))
           (λ known. c.keep_count.ensures trees known (sym (inside _ _ (c.in_ok-value.ensures.answer honest)) ∙ counted))));
     }
 

@@ -1,5 +1,5 @@
-use Rattle.sqlstore.proofs.Common.{IsKnown, Stands}
-use Rattle.sqlstore.proofs.Lemmas.{arith, known_so, refl, subst, sym, trees_of, ∥∥₁_elim, ∥∥₁_map, ∥∥₁_prop}
+use Rattle.sqlstore.proofs.Common.{Stands}
+use Rattle.sqlstore.proofs.Lemmas.{arith, known_so, refl, trees_of, ∥∥₁_elim, ∥∥₁_map, ∥∥₁_prop}
 use Rattle.sqlstore.proofs.sql_store.SqlStore.keep_key_ranks.Goals as goal
 
 pub invariant_of-self : goal.invariant_of-self
@@ -9,8 +9,7 @@ invariant_of-self g c =
     let trees = trees_of g.S.Store s in
     let stays : Stands g.S.Store s s = record { origin = refl; last = refl; counted = omega arith; clean = λ clean. clean } in
     record {
-      standing = known_so g.S.Store s s c.keep_index_ranks.result stays
+      standing = known_so g.S.Store s s c.keep_index_ranks.new.known stays
           (λ honest. ∥∥₁_elim (c.requires honest) ∥∥₁_prop (λ is. ∥∥₁_map (s.standing.known_so honest.0 honest.1) (λ k.
-          let was = subst (IsKnown trees) (sym c.take-known.ensures.value) k in
-          c.keep_index_ranks.ensures trees (c.take_index_ranks-known.ensures.known trees was) (c.put_index.ensures trees n (c.take_index_ranks-known.ensures.ranks trees was) is))));
+          c.keep_index_ranks.ensures trees (c.take_index_ranks-all.ensures.known trees k) (c.put_index.ensures trees n (c.take_index_ranks-all.ensures.ranks trees k) is))));
     }

@@ -1,4 +1,4 @@
-use Rattle.sqlstore.proofs.Lemmas.{IsKnown, known_so, state, subst, sym, trees_of, was_honest, ∥∥₁_map, ◌∙◌}
+use Rattle.sqlstore.proofs.Lemmas.{IsKnown, known_so, state, subst, trees_of, was_honest, ∥∥₁_map, ◌∙◌}
 use Rattle.sqlstore.proofs.sql_store.SqlStore.learn_designs.Goals as goal
 
 pub invariant_of-self : goal.invariant_of-self
@@ -9,8 +9,8 @@ invariant_of-self g c =
     let e = c.in-Ok.ensures in
     let stands = c.read_designs.ensures.stands in
     record {
-      standing = known_so g.S.Store s mid c.keep_designs.result stands (λ honest.
+      standing = known_so g.S.Store s mid c.keep_designs.new.known stands (λ honest.
           let rows = c.requires (was_honest g.S.Store s mid stands honest) in
-          ∥∥₁_map (subst (λ k. ∥ IsKnown trees k ∥₁) (sym c.take-known.ensures.value) (subst (λ h. ∥ IsKnown (state g.S.Store h).now.trees mid.known ∥₁) stands.last (mid.standing.known_so honest.0 honest.1)))
+          ∥∥₁_map (subst (λ h. ∥ IsKnown (state g.S.Store h).now.trees mid.known ∥₁) stands.last (mid.standing.known_so honest.0 honest.1))
           (λ known. c.keep_designs.ensures trees known (record { rows = e.rows ∙ rows; each = e.designs honest })));
     }

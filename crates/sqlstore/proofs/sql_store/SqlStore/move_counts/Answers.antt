@@ -12,15 +12,15 @@ invariant_of-self g c =
     let n = c.args.number.now in
     let trees = trees_of g.S.Store s in
     let stands = c.find_changes.ensures.stands in
-    let parts = c.split-counts.ensures in
+    let parts = c.split-ranks.ensures in
     record {
-      standing = known_so g.S.Store s mid c.keep_ranks.result stands (λ honest.
+      standing = known_so g.S.Store s mid c.keep_ranks.new.known stands (λ honest.
           let was = was_honest g.S.Store s mid stands honest in
           ∥∥₁_elim (laid g.S.Store s was) ∥∥₁_prop (λ l. ∥∥₁_elim (c.requires was) ∥∥₁_prop (λ given.
           let now = documents_at trees n in
           let changes = c.in-Ok.ensures.changes honest given.0 (subst (λ m. AreMarks m given.0) (sym parts.marks) given.2) given.4 in
           let counts = counts_from trees n l c.after.result (c.after.ensures given.0 now (subst (λ l. AreChanges l given.0 now) (sym c.deref.ensures.value) changes) (subst (λ k. AreCounts k given.0) (sym parts.counts) given.1)) in
           let ranks = ranks_from trees n l c.move_ranks.result (c.move_ranks.ensures given.0 now (subst (λ l. AreChanges l given.0 now) (sym c.deref-in-Ok.ensures.value) changes) (subst (λ o. IfSome o (λ r. AreRanksOf r (live_keys given.0))) (sym parts.ranks) given.3)) in
-          ∥∥₁_map (subst (λ k. ∥ IsKnown trees k ∥₁) (sym c.take-known.ensures.value) (subst (λ h. ∥ IsKnown (state g.S.Store h).now.trees mid.known ∥₁) stands.last (mid.standing.known_so honest.0 honest.1)))
-          (λ known. c.keep_ranks.ensures trees (c.keep_counts-known.ensures trees known counts) ranks))));
+          ∥∥₁_map (subst (λ h. ∥ IsKnown (state g.S.Store h).now.trees mid.known ∥₁) stands.last (mid.standing.known_so honest.0 honest.1))
+          (λ known. c.keep_ranks.ensures trees (c.keep_counts.ensures trees known counts) ranks))));
     }

@@ -22,7 +22,7 @@ invariant_of-self-2 g c =
     let e = c.move_each_index-moved.ensures in
     let stands : Stands g.S.Store s mid = record { origin = e.stands.origin; last = e.stands.last; counted = e.stands.counted; clean = e.stands.clean } in
     record {
-      standing = known_so g.S.Store s mid c.keep_index_ranks.result stands (λ honest.
+      standing = known_so g.S.Store s mid c.keep_index_ranks.new.known stands (λ honest.
           let was = was_honest g.S.Store s mid stands honest in
           ∥∥₁_elim (s.standing.held was.0 was.1) ∥∥₁_prop (λ holds. ∥∥₁_elim (c.requires was) ∥∥₁_prop (λ given. ∥∥₁_map (s.standing.known_so was.0 was.1) (λ known.
           let taken = subst (IsKnown trees) (sym c.take-known.ensures.value) known in
