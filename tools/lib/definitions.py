@@ -162,7 +162,7 @@ def blocks_at(lines, start):
 
 
 def clauses_of(top, crate, path, wanted):
-    """Returns the clauses of these names of a crate's public function, which may be a method `Type::name`."""
+    """Returns the clauses of these names of a crate's public function; the path may be `Type::name` or `module::name`."""
     owner, _, name = path.rpartition("::")
     for file in sorted(glob.glob(f"{top}/crates/{crate}/src/**/*.rt", recursive=True)):
         with open(file, encoding="utf-8") as code:
@@ -173,7 +173,7 @@ def clauses_of(top, crate, path, wanted):
                 inside = re.sub(r"<.*?>", "", line).split(" for ")[-1].split()[-2 if line.endswith("{") else -1].rstrip(":")
             elif line.startswith("}"):
                 inside = None
-            if re.match(rf"\s*(?:pub )?fn {name}\b", line) and (owner in ("", inside) or owner.endswith("laws")):
+            if re.match(rf"\s*(?:pub )?fn {name}\b", line) and owner in ("", inside, os.path.basename(file).removesuffix(".rt")):
                 blocks = blocks_at(lines, number)
                 if all(one in blocks for one in wanted):
                     return Clauses(os.path.relpath(file, top), ["\n".join(blocks[one]) for one in wanted], uses_in(lines))

@@ -1,5 +1,5 @@
 //! What replication passes promise: what one that is done owes its target, and when databases agree.
 #![tactic(auto)]
 
-pub mod completion_laws;
-pub mod convergence_laws;
+pub mod completion;
+pub mod convergence;

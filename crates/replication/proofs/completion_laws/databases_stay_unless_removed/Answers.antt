@@ -1,5 +1,0 @@
-use Rattle.replication.proofs.Removals.{without_removals}
-use Rattle.replication.proofs.completion_laws.databases_stay_unless_removed.Goals as goal
-
-pub returns : goal.returns
-returns c = without_removals

@@ -1,6 +1,0 @@
-use Rattle.replication.proofs.Pushed.{push_appends}
-use Rattle.replication.proofs.Quiet.{others_write_nothing}
-use Rattle.replication.proofs.convergence_laws.passes_write_what_they_push.Goals as goal
-
-pub returns : goal.returns
-returns c = record { push = push_appends; others = others_write_nothing }

@@ -1,5 +1,0 @@
-use Rattle.replication.proofs.Ways as way
-use Rattle.replication.proofs.convergence_laws.rings_meet.Goals as goal
-
-pub returns : goal.returns
-returns c = record { ways = way.ways_meet; rings = way.rings_meet }

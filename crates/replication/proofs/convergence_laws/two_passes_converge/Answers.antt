@@ -1,5 +1,0 @@
-use Rattle.replication.proofs.Crossings.{keep_pair, two_converge}
-use Rattle.replication.proofs.convergence_laws.two_passes_converge.Goals as goal
-
-pub returns : goal.returns
-returns c = record { converge = two_converge; agree = keep_pair }
