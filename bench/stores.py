@@ -124,8 +124,7 @@ class Tables:
 
     def put(self, names, body):
         """Runs all statements of a request that writes new documents into a database that was asked
-        before: the design documents, what the documents were, and the writes."""
-        self.conn.execute("SELECT id, seq, winner, del FROM docs WHERE db = 1 AND id >= ? AND id <= ? ORDER BY id", (b"_design/", b"_design0")).fetchall()
+        before: what the documents were, and the writes. Its rules are known then."""
         for name in names:
             self.look_up(name)
         self.commit(names, body)
