@@ -1,7 +1,7 @@
 -- The names that most proofs of this crate cite, passed on from one place. Declares nothing.
 unfoldable pub use Rattle.sqlite.specs.Listing.{understood}
 unfoldable pub use Rattle.sqlite_tied.specs.Compute.{everything}
-pub use Rattle.index.specs.Calls.{ChangesIndexes, ChangesOnly, ClearsAll, ClearsEntries, Drops, FollowsAll, StaysOpen, HasEntries, IsDropped, IsRefused, IsSound, Refreshes, ReplacesKey}
+pub use Rattle.index.specs.Calls.{AreUpToDate, ChangesIndexes, ChangesOnly, ClearsAll, ClearsEntries, Drops, FollowsAll, StaysOpen, HasEntries, IsDropped, IsRefused, IsSound, Refreshes, ReplacesKey}
 pub use Rattle.index.specs.Indexed.{AreEntriesOf, AreIndexed, Entries, IsIndexed, is_due, is_due_by, is_due_while, with_key, without_numbers}
 pub use Rattle.index.specs.Layout.{AreDeclarationRows, AreEntryRows, HasIndexRows, IsDeclarationRow, IsEntryRow}
 pub use Rattle.index.specs.Meaning.{Declarations, Documents, declares_in, is_key, key_at, key_if_seen, sees_in, with_declared, with_seen, without_declared}

@@ -66,11 +66,18 @@ Refreshes g db id before after old new r =
     HasCleanDisk (state g new) → old.schema ≡ schema → (declares : Declarations) (sees : Documents) → AreIndexed declares sees (state g old).now.trees → sees db id ≡ before
     → OnOk r (AreIndexed declares (with_seen sees db id after) (state g new).now.trees × ChangesOnly entries_tree (state g old).now (state g new).now)
 
+-- The entries are up to date: they are what these declarations want of these documents. `all` are the declarations of a
+-- database, and `seen` is what queries see of one of its documents.
+pub record AreUpToDate (db : ℤ) (all : List Declared) (id : List ℕ) (seen : Option Value) (decls : List Row) (sees : Documents) (entries : List Row) : Type 0 where
+  pub laid : AreDeclarationRows decls
+  pub own : all ≡ map declared_at (filter (is_at_home db) decls)
+  pub due : AreEntriesOf (is_due sees decls) entries
+  pub now : sees db id ≡ seen
+
 -- These indexes, which are all of a database, follow a document of which another is seen, or none.
 abbrev pub FollowsAll : {S X E : Type 0} → Ghosts S → ℤ → List Declared → List ℕ → Option Value → Option Value → Held S → Held S → Result X E → Type 0
 FollowsAll g db all id before after old new r =
-    HasCleanDisk (state g new) → old.schema ≡ schema → (decls : List Row) (sees : Documents) → AreDeclarationRows decls → all ≡ map declared_at (filter (is_at_home db) decls)
-    → AreEntriesOf (is_due sees decls) ((state g old).now.trees entries_tree) → sees db id ≡ before
+    HasCleanDisk (state g new) → old.schema ≡ schema → (decls : List Row) (sees : Documents) → AreUpToDate db all id before decls sees ((state g old).now.trees entries_tree)
     → OnOk r (HasEntries (is_due (with_seen sees db id after) decls) (state g old).now (state g new).now)
 
 -- The entries of these indexes are taken out, and nothing else.

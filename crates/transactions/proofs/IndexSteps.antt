@@ -8,8 +8,8 @@ use Rattle.store.specs.Database.{DocumentWrite}
 use Rattle.std.proofs.Common.{Bor, IfOk, ap₂}
 use Rattle.tree.specs.DocumentId.{is_design_id}
 use Rattle.store.specs.Indexes.{index_fields_of, queried_document, winning_body}
-use Rattle.index.specs.Calls.{ChangesIndexes, ChangesOnly, HasEntries}
-use Rattle.index.specs.Indexed.{AreEntriesOf, AreIndexed, IsIndexed, is_due}
+use Rattle.index.specs.Calls.{AreUpToDate, ChangesIndexes, ChangesOnly, HasEntries}
+use Rattle.index.specs.Indexed.{AreIndexed, IsIndexed, is_due}
 use Rattle.index.specs.Layout.{AreDeclarationRows, AreEntryRows, HasIndexRows}
 use Rattle.std.proofs.lemmas.List.{nil_from_length}
 use Rattle.std.proofs.lemmas.Bool.Decides.{nat_tests}
@@ -210,15 +210,14 @@ indexes_alone a b h = record {
 -- a document that is no design document was written, and all indexes of its database followed it
 pub seen_followed : (r : Row) (a : Addition) (db : ℤ) (ids : List (List ℕ)) (all : List Declared) (before after : Option Value) (old written new : sqlite.Database) → IsIndexedStoreBut db ids old → AreAllIndexes all db old.trees → is_design_id a.id ≡ false
     → db ≡ number_of r → IsWrite r (write_in old.trees r a) old written → IsStore written → before ≡ sees_in old.trees db a.id → after ≡ sees_in written.trees db a.id
-    → ((decls : List Row) (sees : Documents) → AreDeclarationRows decls → all ≡ map declared_at (filter (is_at_home db) decls) → AreEntriesOf (is_due sees decls) (written.trees entries_tree) → sees db a.id ≡ before
-    → HasEntries (is_due (with_seen sees db a.id after) decls) written new)
+    → ((decls : List Row) (sees : Documents) → AreUpToDate db all a.id before decls sees (written.trees entries_tree) → HasEntries (is_due (with_seen sees db a.id after) decls) written new)
     → IsFollowed db ids r (write_in old.trees r a) old new × AreAllIndexes all db new.trees
 seen_followed r a db ids all before after old written new was every plain numbered write store first seen_is follows =
     let declares = declared_by (old.trees decls_tree) in
     let sees = sees_in old.trees in
     let left : Leaving db a.id old.trees written.trees = subst (λ n. Leaving n a.id old.trees written.trees) (sym numbered) (write_leaves r (write_in old.trees r a) old written was.store.schema_is write) in
     let still = indexed_still declares sees old.trees written.trees left.decls left.entries was.indexed.indexed in
-    let made = follows (written.trees decls_tree) sees still.decls (every ∙ ap (λ rows. map declared_at (filter (is_at_home db) rows)) (sym left.decls)) still.entries (sym first) in
+    let made = follows (written.trees decls_tree) sees (record { laid = still.decls; own = every ∙ ap (λ rows. map declared_at (filter (is_at_home db) rows)) (sym left.decls); due = still.entries; now = sym first }) in
     let both = refreshed declares sees (with_seen sees db a.id after) written new store.schema_is still made in
     let only = indexes_alone written new both.1 in
     let decls = declarations_stay written new store.schema_is made.only ∙ left.decls in

@@ -17,5 +17,5 @@ returns-clause-refreshes g c clean has declares sees h was =
     let same : mid.now ≡ old.now = (c.in_ok-declarations.ensures.stands has still).0.now_is in
     let all : map declared c.deref.result.now ≡ map declared_at (filter (is_at_home c.args.db.now) decls) = ap (map declared) c.deref.ensures.value ∙ c.in_ok-declarations.ensures.ok still fit in
     let P : Database → Type 0 = λ d. d.schema ≡ schema → AreEntriesOf (is_due sees decls) (d.trees entries_tree) → OnOk c.refresh_indexes.result (HasEntries (is_due after decls) d new.now) in
-    let made : P mid.now = λ ours entries. c.refresh_indexes.ensures.follows clean ours decls sees h.decls all entries was in
+    let made : P mid.now = λ ours entries. c.refresh_indexes.ensures.follows clean ours decls sees (record { laid = h.decls; own = all; due = entries; now = was }) in
     on_ok c.refresh_indexes.result (refreshed declares sees after old.now new.now has h) (subst P same made has h.entries)

@@ -15,8 +15,8 @@ loop-declaration-init g c =
       same = refl;
       proceeds = proceeds_itself old;
       goes_on = λ clean up inside. (up, inside);
-      so_far = λ clean has decls sees laid all h was. (
-        subst (λ ds. IsOnTheWay c.args.db.now c.args.id.now sees seen decls ds (old.now.trees entries_tree)) (sym all) (begins c.args.db.now c.args.id.now sees seen decls (old.now.trees entries_tree) laid h),
+      so_far = λ clean has decls sees was. (
+        subst (λ ds. IsOnTheWay c.args.db.now c.args.id.now sees seen decls ds (old.now.trees entries_tree)) (sym was.own) (begins c.args.db.now c.args.id.now sees seen decls (old.now.trees entries_tree) was.laid was.due),
         only_itself entries_tree old.now,
       );
     }
@@ -41,24 +41,24 @@ loop-declaration-preserved g c =
           let was : HasCleanDisk mid = omega (arith, e.proceeds.survives.clean, clean) in
           let before = inv.goes_on was up inside in
           e.goes_on clean before.0 before.1;
-      so_far = λ clean has decls sees laid all h was.
+      so_far = λ clean has decls sees was.
           let still : HasCleanDisk mid = omega (arith, e.proceeds.survives.clean, clean) in
-          let before = inv.so_far still has decls sees laid all h was in
+          let before = inv.so_far still has decls sees was in
           let made =
-          steps c.args.db.now c.args.id.now sees seen decls {P = ChangesOnly entries_tree mid.now new.now} (declared d) (map declared (drop (i + 1) ds)) (mid.now.trees entries_tree) (new.now.trees entries_tree) _ was
+          steps c.args.db.now c.args.id.now sees seen decls {P = ChangesOnly entries_tree mid.now new.now} (declared d) (map declared (drop (i + 1) ds)) (mid.now.trees entries_tree) (new.now.trees entries_tree) _ was.now
           (λ due a b. let x = e.replaces clean (before.1.schema ∙ has) due a b in (x.entries, x.only))
           (subst (λ l. IsOnTheWay c.args.db.now c.args.id.now sees seen decls l (mid.now.trees entries_tree)) cut before.0) in
           (made.0, only_then entries_tree old.now mid.now new.now before.1 made.1);
     }
 
 pub returns-clause-follows : goal.returns-clause-follows
-returns-clause-follows g c clean has decls sees laid all h was =
+returns-clause-follows g c clean has decls sees was =
     let now = state g.S.Store c.loop-declaration.tx.conn.now in
     let ds = c.args.declarations.now in
     let i = c.loop-declaration.declaration-index in
     let seen = option_map {U = Value} (λ v. view v.now) c.args.after in
     let none : length ds ≤ i = omega (arith, c.loop-declaration-test.false) in
-    let done = c.loop-declaration.invariant.so_far clean has decls sees laid all h was in
+    let done = c.loop-declaration.invariant.so_far clean has decls sees was in
     record {
       entries = ends c.args.db.now c.args.id.now sees seen decls (now.now.trees entries_tree)
           (subst (λ l. IsOnTheWay c.args.db.now c.args.id.now sees seen decls (map declared l) (now.now.trees entries_tree)) (drop_all i ds none) done.0);

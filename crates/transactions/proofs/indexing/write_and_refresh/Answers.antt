@@ -1,17 +1,15 @@
 use Rattle.transactions.proofs.Lemmas.{Database, HasCleanDisk, IsStore, Ok, addition_of, ap, arith, rules, state, subst, sym, ⊤, ◌∙◌, ◌≡◌}
-use Rattle.transactions.proofs.Common.{IsWrite, List, Row, filter, map, option_map, ℕ}
+use Rattle.transactions.proofs.Common.{IsWrite, List, Row, map, option_map, ℕ}
 use Rattle.transactions.proofs.IndexSteps.{seen_copied, seen_followed}
 use Rattle.transactions.proofs.IndexRests.{refused_of}
 use Rattle.transactions.proofs.NextWrites.{followed_by, followed_stop, followed_then, read_failed, write_failed, written_next}
 use Rattle.transactions.proofs.Redeclared.{unwritten_as}
 use Rattle.transactions.specs.Indexing.{of_index_fault, write_in}
 use Rattle.couch_json.specs.View.{view}
-use Rattle.index.specs.Calls.{HasEntries}
-use Rattle.index.specs.Indexed.{AreEntriesOf, is_due}
-use Rattle.index.specs.Layout.{AreDeclarationRows}
+use Rattle.index.specs.Calls.{AreUpToDate, HasEntries}
+use Rattle.index.specs.Indexed.{is_due}
 use Rattle.index.specs.Meaning.{Documents, sees_in, with_seen}
-use Rattle.index.specs.Rows.{is_at_home}
-use Rattle.index.specs.Shown.{declared, declared_at}
+use Rattle.index.specs.Shown.{declared}
 use Rattle.tables.specs.Schema.{entries_tree}
 use Rattle.transactions.proofs.indexing.write_and_refresh.Goals as goal
 
@@ -81,7 +79,6 @@ returns-clause-ok g c ids plain clean was every held due =
     seen_copied c.as_ref-2.result ∙ ap (option_map view) c.as_ref-2.ensures.value ∙ again.ok look-clean left ∙ ap (λ (d : Database). sees_in d.trees db a.id) (sym seen) in
     seen_followed due.row a db ids _ _ _ old.now look.now end.now was every plain due.numbered (subst (IsWrite due.row (write_in old.now.trees due.row a) old.now) (sym seen) write) (subst IsStore (sym seen) left)
     before after
-    (subst (λ (i : List ℕ). (decls : List Row) (sees : Documents) → AreDeclarationRows decls → map declared c.args.indexes.now ≡ map declared_at (filter (is_at_home db) decls)
-    → AreEntriesOf (is_due sees decls) (look.now.trees entries_tree) → sees db i ≡ option_map (λ v. view v.now) c.as_ref.result
+    (subst (λ (i : List ℕ). (decls : List Row) (sees : Documents) → AreUpToDate db (map declared c.args.indexes.now) i (option_map (λ v. view v.now) c.as_ref.result) decls sees (look.now.trees entries_tree)
     → HasEntries (is_due (with_seen sees db i (option_map (λ v. view v.now) c.as_ref-2.result)) decls) look.now end.now) id
     (e.follows clean (ap (λ (d : Database). d.schema) seen ∙ left.schema_is)))
