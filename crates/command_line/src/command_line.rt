@@ -9,7 +9,8 @@ ghost use Rattle.clap.specs.Words.{all_of, app_of, fault_of, first_of, found_of,
 ghost use Rattle.command_line.specs.Plan.{admin_rule, answering_commands, asked_at, asked_by, command_of, bare_command, command_named, couchd_command};
 ghost use Rattle.command_line.specs.Plan.{are_apart, can_be_made, check_asked_by, check_command, flag, is_file, is_given, is_header_byte, is_numeral};
 ghost use Rattle.command_line.specs.Plan.{lab_asked_by, lab_command, number_between, number_or, optional_option, port_in, required_option, serve_asked_by};
-ghost use Rattle.command_line.specs.Plan.{serve_command, serve_options, side_in, side_of, sync_asked_by, sync_command, sync_of, sync_options, sync_sides, user_in};
+ghost use Rattle.command_line.specs.Plan.{serve_command, serve_options, side_in, side_of, user_in};
+ghost use Rattle.command_line.specs.Plan.{sync_asked_by, sync_command, sync_of, sync_options, sync_sides};
 
 use crate::plans::{Plan, PlanFault, SyncPlan, SyncSide};
 use clap::error::ErrorKind;

@@ -21,7 +21,8 @@ pub(crate) fn is_declared<S: Alter>(
     conn: &mut Connection<S>,
     row: &Row,
 ) -> Result<bool, CheckFault>
-    ensures { (r : order.Row) → Checks S.Store (IsNextRow indexed.Declarations row.now r) conn.old conn.new (λ trees is. IsAnswer (IsOwnDeclaration trees r) is) result }
+    ensures { (r : order.Row) → Checks S.Store (IsNextRow indexed.Declarations row.now r) conn.old conn.new
+        (λ trees is. IsAnswer (IsOwnDeclaration trees r) is) result }
 {
     match spell_stored(alloc, conn, row)? {
         Some(text) => Ok(are_same(text.as_bytes(), text_in(row, 4))),

@@ -33,7 +33,8 @@ pub(crate) fn is_followed<S: Alter>(
     conn: &mut Connection<S>,
     row: &Row,
 ) -> Result<bool, CheckFault>
-    ensures { (r : order.Row) → Checks S.Store (IsNextRow indexed.Documents row.now r) conn.old conn.new (λ trees is. IsAnswer (IsIndexedDocument trees r) is) result }
+    ensures { (r : order.Row) → Checks S.Store (IsNextRow indexed.Documents row.now r) conn.old conn.new
+        (λ trees is. IsAnswer (IsIndexedDocument trees r) is) result }
 {
     let Some(id) = id_in(alloc, row, 2)? else {
         return Ok(false);

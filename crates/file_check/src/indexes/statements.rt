@@ -22,7 +22,8 @@ pub(crate) fn next_row<S: Alter>(
     table: Indexed,
     last: &Option<i64>,
 ) -> Result<Vec<Row>, Error>
-    ensures { Reads S.Store (IsReady table) conn.old conn.new (λ trees rows. rows.items ≡ next_rows (shown_next table) last.now (trees (indexed_tree table))) result }
+    ensures { Reads S.Store (IsReady table) conn.old conn.new
+        (λ trees rows. rows.items ≡ next_rows (shown_next table) last.now (trees (indexed_tree table))) result }
 {
     match last {
         Some(last) => row_behind(conn, table, last),
@@ -32,7 +33,8 @@ pub(crate) fn next_row<S: Alter>(
 
 /// Returns the same of the first row of a table, if there is one.
 fn first_row<S: Alter>(conn: &mut Connection<S>, table: Indexed) -> Result<Vec<Row>, Error>
-    ensures { Reads S.Store (IsReady table) conn.old conn.new (λ trees rows. rows.items ≡ next_rows (shown_next table) None (trees (indexed_tree table))) result }
+    ensures { Reads S.Store (IsReady table) conn.old conn.new
+        (λ trees rows. rows.items ≡ next_rows (shown_next table) None (trees (indexed_tree table))) result }
 {
     query(conn, first_text(table), &[])
 }
@@ -43,7 +45,8 @@ fn row_behind<S: Alter>(
     table: Indexed,
     last: &i64,
 ) -> Result<Vec<Row>, Error>
-    ensures { Reads S.Store (IsReady table) conn.old conn.new (λ trees rows. rows.items ≡ next_rows (shown_next table) (Some last.now) (trees (indexed_tree table))) result }
+    ensures { Reads S.Store (IsReady table) conn.old conn.new
+        (λ trees rows. rows.items ≡ next_rows (shown_next table) (Some last.now) (trees (indexed_tree table))) result }
 {
     query(conn, behind_text(table), params![last])
 }
