@@ -7,7 +7,6 @@ mod databases;
 mod documents;
 mod finding_rows;
 mod locals;
-mod names;
 mod revisions;
 mod statements;
 mod texts;

@@ -131,7 +131,8 @@ impl PartialOrd for DbName {
     }
 }
 
-fn is_database_name(text: &[u8]) -> bool
+/// Returns whether the bytes may name a database: whether [`DbName::new`] takes them.
+pub fn is_database_name(text: &[u8]) -> bool
     ensures { result ≡ is_database_name text.now }
 {
     match text.first() {

@@ -33,7 +33,7 @@ mod store;
 mod winning;
 mod write;
 
-pub use database_name::{DbName, NameFault};
+pub use database_name::{DbName, NameFault, is_database_name};
 pub use design_rows::design_range;
 pub use fail_store::{FailStore, FailingCall};
 pub use fault::StoreFault;

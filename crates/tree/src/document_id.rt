@@ -164,7 +164,8 @@ fn is_local_id(text: &[u8]) -> bool
     extends(b"_local/", text)
 }
 
-fn is_document_id(text: &[u8]) -> bool
+/// Returns whether the bytes may be the id of a document, if they are UTF-8: whether [`DocId::new`] takes them.
+pub fn is_document_id(text: &[u8]) -> bool
     ensures { result ≡ is_document_id text.now }
 {
     if text.is_empty() || text.len() > 256 {

@@ -27,7 +27,7 @@ mod revision;
 mod shown_document;
 
 pub use body::Body;
-pub use document_id::{DocId, IdFault};
+pub use document_id::{DocId, IdFault, is_document_id};
 pub use entry::{Entry, Held};
 pub use history::History;
 pub use marked_rev::MarkedRev;

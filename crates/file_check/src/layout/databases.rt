@@ -7,10 +7,10 @@ ghost use Rattle.file_check.specs.inner.Queries.{Judges};
 
 use crate::finding::{CheckFault, Wrong};
 use crate::layout::cells::{blob_at, count_at, text_at};
-use crate::layout::names::is_database_name;
 use crate::layout::texts::is_security_text;
 use sqlite::Row;
 use std::alloc::Global;
+use store::is_database_name;
 
 /// Tells what is wrong with the row of a database, if anything is.
 #[tactic(auto, using(crate::proofs::RowForms::database_sound, crate::proofs::RowForms::database_uncounted, crate::proofs::RowForms::database_unnamed, crate::proofs::RowForms::database_unspelled))]

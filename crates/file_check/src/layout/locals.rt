@@ -10,10 +10,10 @@ ghost use Rattle.file_check.specs.inner.Queries.{Judges};
 use crate::finding::{CheckFault, Wrong};
 use crate::layout::cells::{blob_at, count_at, text_at};
 use crate::layout::finding_rows::{find_length, whole_or_zero};
-use crate::layout::names::is_document_id;
 use crate::layout::texts::is_body_text;
 use sqlite::{Alter, Connection, Row};
 use std::alloc::Global;
+use tree::is_document_id;
 
 /// Tells what is wrong with the row of a local document by itself, if anything is.
 #[tactic(auto, using(crate::proofs::RowForms::local_sound, crate::proofs::RowForms::local_uncounted, crate::proofs::RowForms::local_too_great, crate::proofs::RowForms::local_unnamed, crate::proofs::RowForms::local_unspelled))]
