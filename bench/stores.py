@@ -18,6 +18,10 @@ with open(f"{TOP}/crates/tables/src/create.rt", encoding="utf-8") as code:
     # A text may go on in the next line, behind a backslash.
     TABLES = [re.sub(r"\\\n\s*", "", text) for text in re.findall(r'"(CREATE TABLE (?:dbs|docs|revs) [^"]*)"', code.read())]
 
+# The server runs with the variable that its systemd unit sets.
+with open(f"{TOP}/examples/deploy/couchd@.service", encoding="utf-8") as unit:
+    VARIABLES = dict(line.removeprefix("Environment=").strip().split("=", 1) for line in unit if line.startswith("Environment="))
+
 
 class Served:
     """A server on a file, and one connection to it."""
@@ -27,7 +31,7 @@ class Served:
         for word, number in [("--at-once", at_once), ("--cache", cache)]:
             if number is not None:
                 command += [word, str(number)]
-        self.process = subprocess.Popen(command, stdout=subprocess.PIPE)
+        self.process = subprocess.Popen(command, stdout=subprocess.PIPE, env={**os.environ, **VARIABLES})
         # A bench that fails leaves no server behind, which would hold its output open.
         atexit.register(self.process.kill)
         line = self.process.stdout.readline().decode()
