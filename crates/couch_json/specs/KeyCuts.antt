@@ -34,6 +34,7 @@ begin_with no_items vs = true
 begin_with (item u us) no_items = false
 begin_with (item u us) (item v vs) = is_eq (collation u v) && begin_with us vs
 
+-- both are there, and the second begin with the first
 abbrev pub is_front_of : Option Items → Option Items → Bool
 is_front_of None vs = false
 is_front_of (Some us) None = false

@@ -2,40 +2,15 @@ ghost use Rattle.std.specs.Prelude.{◌≡◌, ◌≢◌, ◌++◌, ℕ, true, f
 ghost use Rattle.std.specs.Coded.{coded_list, coded_ℕ};
 ghost use Rattle.couch_json.specs.FieldPath.{names_from, names_in, are_filled, is_field_path, value_at};
 ghost use Rattle.couch_json.specs.View.{view};
-ghost use Rattle.couch_json.specs.declared.field_path.PathFault.TheVariants.{Memory};
 
-use crate::no_memory::{Got, NoMemory};
+use crate::malformed::Malformed;
+use crate::no_memory::Got;
 use crate::value::Json;
-use std::alloc::{AllocError, Global};
+use std::alloc::Global;
 use std::marker::Model;
-use thiserror::Error;
 
-/// Why a text was refused as a field path.
-#[derive(Clone, Copy, Debug, PartialEq, Eq, Error)]
-pub enum PathFault {
-    /// It is empty, longer than 256 bytes, or has an empty name.
-    #[error("not a field path")]
-    Shape = 1,
-    /// Memory ran out.
-    #[error("out of memory")]
-    Memory = 2,
-}
-
-impl From<NoMemory> for PathFault {
-    ghost from_gives = { λ _ fault. fault ≡ Memory };
-
-    fn from(_no_memory: NoMemory) -> PathFault {
-        PathFault::Memory
-    }
-}
-
-impl From<AllocError> for PathFault {
-    ghost from_gives = { λ _ fault. fault ≡ Memory };
-
-    fn from(_error: AllocError) -> PathFault {
-        PathFault::Memory
-    }
-}
+/// Why a text was refused as a field path. One without the form is empty, longer than 256 bytes, or has an empty name.
+pub type PathFault = Malformed;
 
 /// The path to a value inside another: names separated by dots, a text of 1 to 256 bytes.
 ///
@@ -69,8 +44,8 @@ impl FieldPath {
     /// Parses the path that a text spells; `Shape` where it spells none.
     pub fn parse(alloc: Global, text: &str) -> Result<FieldPath, PathFault>
         ensures ok { IfOk result (λ path. (path ≡ text.now) × (is_field_path text.now ≡ true)) }
-        ensures fault { IfErr result (λ e. e ≢ PathFault.Memory
-            → (e ≡ PathFault.Shape) × (is_field_path text.now ≡ false)) }
+        ensures fault { IfErr result (λ e. e ≢ Malformed.Memory
+            → (e ≡ Malformed.Shape) × (is_field_path text.now ≡ false)) }
     {
         if text.is_empty() || text.len() > 256 {
             return Err(PathFault::Shape);

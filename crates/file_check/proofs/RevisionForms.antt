@@ -222,3 +222,6 @@ pub judged_revision : (trees : Trees) (r : Row) (there known : Bool) (number : �
 judged_revision trees r there known number number_is known_is (Err e) judge = tt
 judged_revision trees r there known number number_is known_is (Ok (Some w)) judge = λ cells there_is k. judge cells (whole_where_sound trees r there known number number_is there_is known_is k)
 judged_revision trees r there known number number_is known_is (Ok None) judge = λ cells there_is. revision_of_document trees r there known number number_is there_is known_is (judge cells)
+
+-- what says of the row of a revision whether it is sound
+pub ruleset revision_forms = (revision_sound, revision_unowned, revision_uncounted, revision_unlawful, revision_unfollowing, revision_unheld)

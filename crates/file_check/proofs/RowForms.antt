@@ -255,3 +255,14 @@ not_owned_by r length h k is out owned = out (subst (IsOwnedDocument r length) (
 
 pub past_is_null : (r : Row) (at : ℕ) → length r ≤ at → column r at ≡ Null
 past_is_null r at past = get_or_past r at Null past
+
+-- ---- what says of each part of a row whether it is sound
+pub ruleset database_forms = (database_sound, database_uncounted, database_unnamed, database_unspelled)
+
+pub ruleset document_forms = (document_sound, document_uncounted, document_unmarked, document_overmarked, document_unnumbered, document_unnamed)
+
+pub ruleset owner_forms = (owned_so, owned_nowhere, owned_not_within, owned_not_winning, owned_not_held)
+
+pub ruleset local_forms = (local_sound, local_uncounted, local_too_great, local_unnamed, local_unspelled)
+
+pub ruleset held_forms = (held_none, held_some, held_uncounted, held_otherwise, held_unmarked, held_overmarked, held_untold, held_unspelled)

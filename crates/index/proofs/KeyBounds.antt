@@ -1,11 +1,9 @@
 -- The bounds of bytes at which cuts lie.
-use Rattle.index.proofs.Common.{Err, IfOk, List, None, Ok, Option, Result, Some, [], ap, arith, false, length, refl, sym, take, true, ℕ, ◌&&◌, ◌++◌, ◌∙◌, ◌∷◌, ◌≡◌}
-use Rattle.std.proofs.Common.{append_assoc, not, ◌-◌}
+use Rattle.index.proofs.Common.{Err, IfOk, List, None, Ok, Option, Result, Some, [], ap, arith, false, length, refl, sym, take, true, ℕ, ◌++◌, ◌∙◌, ◌∷◌, ◌≡◌}
+use Rattle.std.proofs.Common.{append_assoc, ◌-◌}
 use Rattle.std.proofs.Math.Seq.{take-append_seam}
 use Rattle.std.proofs.lemmas.List.{length-append}
-use Rattle.std.specs.Ordering.{is_eq, is_gt}
 use Rattle.couch_json.proofs.KeyCuts.{above-bound_above_all, above-bound_after, above-bound_after_prefix, above-bound_before, above-bound_below_all}
-use Rattle.couch_json.specs.Collation.{collation}
 use Rattle.couch_json.specs.Key.{items_key, key}
 use Rattle.couch_json.specs.KeyCuts as cuts
 use Rattle.couch_json.specs.KeyCuts.{bound_after_prefix, lies_above_cut}
@@ -13,18 +11,8 @@ use Rattle.couch_json.specs.Lawful.{IsLawful}
 use Rattle.couch_json.specs.Parts.{items_in}
 use Rattle.couch_json.specs.Value.{Items, Value, array, item, no_items, null, object, text, truth, whole}
 use Rattle.std.specs.Prelude.{is_some, option_map}
-use Rattle.store.specs.KeyPages.{begin_with, is_front_of, lies_above}
+use Rattle.store.specs.KeyPages.{lies_above}
 use Rattle.store.specs.declared.index_page.CutSide.TheVariants.{After, AfterPrefix, Before}
-
-begin_alike : (us vs : Items) → cuts.begin_with us vs ≡ begin_with us vs
-begin_alike no_items vs = refl
-begin_alike (item u us) no_items = refl
-begin_alike (item u us) (item v vs) = ap (λ b. is_eq (collation u v) && b) (begin_alike us vs)
-
-front_alike : (us vs : Option Items) → cuts.is_front_of us vs ≡ is_front_of us vs
-front_alike None vs = refl
-front_alike (Some us) None = refl
-front_alike (Some us) (Some vs) = begin_alike us vs
 
 -- the bound of a cut on each side of a key
 pub bound_before : (k v : Value) (bound : List ℕ) → bound ≡ key k → IsLawful k → IsLawful v → lies_above_cut bound (key v) ≡ lies_above Before k v
@@ -34,8 +22,7 @@ pub bound_after : (k v : Value) (bound : List ℕ) → bound ≡ key k ++ 0 ∷ 
 bound_after k v bound is lawful own = ap (λ b. lies_above_cut b (key v)) is ∙ above-bound_after v k own lawful
 
 pub bound_behind : (k v : Value) (bound : List ℕ) → bound ≡ bound_after_prefix k → IsLawful k → IsLawful v → lies_above_cut bound (key v) ≡ lies_above AfterPrefix k v
-bound_behind k v bound is lawful own =
-    ap (λ b. lies_above_cut b (key v)) is ∙ above-bound_after_prefix v k own lawful ∙ ap (λ b. is_gt (collation v k) && not b) (front_alike (items_in k) (items_in v))
+bound_behind k v bound is lawful own = ap (λ b. lies_above_cut b (key v)) is ∙ above-bound_after_prefix v k own lawful
 
 -- where nothing is cut off
 pub none_below : (v : Value) (bound : List ℕ) → bound ≡ [] → lies_above_cut bound (key v) ≡ true

@@ -584,3 +584,6 @@ rule_told Conflict rule denies = absurd (let k : None ≡ Some rule = denies in 
 rule_told Generation rule denies = absurd (let k : None ≡ Some rule = denies in cc)
 rule_told Missing rule denies = absurd (let k : None ≡ Some rule = denies in cc)
 rule_told Deleted rule denies = absurd (let k : None ≡ Some rule = denies in cc)
+
+-- what says of a refusal by a rule which status and which rule it has
+pub ruleset denial_forms = (judged_denied, denial_status, other_status, rule_told)

@@ -68,7 +68,7 @@ pub fn answers_keep_databases_lawful()
 /// database or, of who administers the server, the closed one; or of those of the edit of the document.
 /// A caller without a name is answered with 401, one with a name with 403, and no other refusal has one
 /// of these statuses.
-#[tactic(auto, using(crate::proofs::Denials::judged_denied, crate::proofs::Denials::denial_status, crate::proofs::Denials::other_status, crate::proofs::Denials::rule_told))]
+#[tactic(auto, using(crate::proofs::Denials::denial_forms))]
 pub fn denials_name_the_first_refusing_rule()
     ensures due { (c : Configuration) (databases : Contents) (m : Message) (refusal : Refusal) (rule : Rule) → judgement c databases m ≡ Err refusal
         → rule_denied_by refusal ≡ Some rule → IsDenied c databases m refusal rule }

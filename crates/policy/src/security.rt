@@ -3,36 +3,18 @@ ghost use Rattle.couch_json.specs.View.{view, items_view};
 ghost use Rattle.auth.specs.Roles.{is_among};
 ghost use Rattle.policy.specs.Security.{closed_security, is_in_group, is_security, is_vacant, is_server_admin, is_database_admin, is_member, item_texts};
 ghost use Rattle.policy.specs.Security.{listed_in};
-ghost use Rattle.policy.specs.declared.security.SecurityFault.TheVariants.{Memory};
 
 use crate::closed::closed_value;
 use crate::group::{is_in, is_vacant};
 use crate::shape::is_security;
 use auth::Caller;
-use couch_json::{Got, Json, NoMemory};
+use couch_json::{Got, Json, Malformed};
 use std::alloc::Global;
 use std::marker::Model;
-use thiserror::Error;
 
-/// Why a value was refused as a security object.
-#[derive(Clone, Copy, Debug, PartialEq, Eq, Error)]
-pub enum SecurityFault {
-    /// It is no object, its `admins` or `members` is no object, their `names` or `roles` is no
-    /// list of texts, or it nests more than 100 deep.
-    #[error("not a security object")]
-    Shape = 1,
-    /// Memory ran out.
-    #[error("out of memory")]
-    Memory = 2,
-}
-
-impl From<NoMemory> for SecurityFault {
-    ghost from_gives = { λ _ fault. fault ≡ Memory };
-
-    fn from(_no_memory: NoMemory) -> SecurityFault {
-        SecurityFault::Memory
-    }
-}
+/// Why a value was refused as a security object. One without the form is no object, its `admins` or `members` is
+/// no object, their `names` or `roles` is no list of texts, or it nests more than 100 deep.
+pub type SecurityFault = Malformed;
 
 /// The security object of a database: who its admins and its members are, by name and by role.
 ///
@@ -70,7 +52,7 @@ impl Security {
     /// `Shape` comes if and only if the value is no security object; it is looked for before memory is taken.
     pub fn read(alloc: Global, value: &Json) -> Result<Security, SecurityFault>
         ensures ok { IfOk result (λ security. security ≡ view value.now) }
-        ensures shape { IsErrOf result SecurityFault.Shape ↔ (is_security (view value.now) ≡ false) }
+        ensures shape { IsErrOf result Malformed.Shape ↔ (is_security (view value.now) ≡ false) }
     {
         if !is_security(value) {
             return Err(SecurityFault::Shape);

@@ -140,24 +140,24 @@ below_second v e f b c = go (collation e f) refl
 
 -- ---- two edges that may be missing
 
-pub above_from : (first second : Option Edge) (e f : Edge) (v : Value) → first ≡ Some e → second ≡ Some f
+pub above_from : {first second : Option Edge} {e f : Edge} (v : Value) → first ≡ Some e → second ≡ Some f
     → is_no_higher (view e.value.now) e.inclusive (view f.value.now) f.inclusive ≡ true → is_above second v ≡ true → is_above first v ≡ true
-above_from first second e f v is_first is_second wide h =
+above_from {first} {second} {e} {f} v is_first is_second wide h =
     ap (λ o. is_above o v) is_first ∙ above_first v (view e.value.now) (view f.value.now) e.inclusive f.inclusive wide (ap (λ o. is_above o v) (sym is_second) ∙ h)
 
-pub above_to : (first second : Option Edge) (e f : Edge) (v : Value) → first ≡ Some e → second ≡ Some f
+pub above_to : {first second : Option Edge} {e f : Edge} (v : Value) → first ≡ Some e → second ≡ Some f
     → is_no_higher (view e.value.now) e.inclusive (view f.value.now) f.inclusive ≡ false → is_above first v ≡ true → is_above second v ≡ true
-above_to first second e f v is_first is_second wide h =
+above_to {first} {second} {e} {f} v is_first is_second wide h =
     ap (λ o. is_above o v) is_second ∙ above_second v (view e.value.now) (view f.value.now) e.inclusive f.inclusive wide (ap (λ o. is_above o v) (sym is_first) ∙ h)
 
-pub below_from : (first second : Option Edge) (e f : Edge) (v : Value) → first ≡ Some e → second ≡ Some f
+pub below_from : {first second : Option Edge} {e f : Edge} (v : Value) → first ≡ Some e → second ≡ Some f
     → is_no_lower (view e.value.now) e.inclusive (view f.value.now) f.inclusive ≡ true → is_below second v ≡ true → is_below first v ≡ true
-below_from first second e f v is_first is_second wide h =
+below_from {first} {second} {e} {f} v is_first is_second wide h =
     ap (λ o. is_below o v) is_first ∙ below_first v (view e.value.now) (view f.value.now) e.inclusive f.inclusive wide (ap (λ o. is_below o v) (sym is_second) ∙ h)
 
-pub below_to : (first second : Option Edge) (e f : Edge) (v : Value) → first ≡ Some e → second ≡ Some f
+pub below_to : {first second : Option Edge} {e f : Edge} (v : Value) → first ≡ Some e → second ≡ Some f
     → is_no_lower (view e.value.now) e.inclusive (view f.value.now) f.inclusive ≡ false → is_below first v ≡ true → is_below second v ≡ true
-below_to first second e f v is_first is_second wide h =
+below_to {first} {second} {e} {f} v is_first is_second wide h =
     ap (λ o. is_below o v) is_second ∙ below_second v (view e.value.now) (view f.value.now) e.inclusive f.inclusive wide (ap (λ o. is_below o v) (sym is_first) ∙ h)
 
 -- ---- two ranges

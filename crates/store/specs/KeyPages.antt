@@ -2,10 +2,10 @@
 -- CouchDB manual, api/ddoc/views (`startkey`, `endkey`, `inclusive_end`, `descending`, `skip`, `limit`, `offset`, `total_rows`) and ddocs/views/collation (the order of keys).
 use Rattle.std.specs.Prelude.{ℕ, ◌+◌, Bool, true, false, not, ◌&&◌, List, filter, length, min, drop, Option, Some, None, option_map, if◌then◌else◌}
 use Rattle.std.specs.List.{count_by}
-use Rattle.std.specs.Ordering.{is_eq, is_ge, is_gt}
+use Rattle.std.specs.Ordering.{is_ge, is_gt}
 use Rattle.couch_json.specs.Collation.{collation}
-use Rattle.couch_json.specs.Parts.{items_in}
-use Rattle.couch_json.specs.Value.{Value, Items, no_items, item}
+use Rattle.couch_json.specs.KeyCuts.{extends_key}
+use Rattle.couch_json.specs.Value.{Value}
 use Rattle.store.specs.Database.{Database}
 use Rattle.store.specs.Indexes.{IndexPlace, index_fields_at, index_rows}
 use Rattle.store.specs.Pages.{if_counted, in_direction, up_to_limit}
@@ -16,22 +16,6 @@ use Rattle.store.specs.declared.index_page.KeyRange.{KeyRange}
 use Rattle.store.specs.declared.listing.RowCounts.{RowCounts}
 
 -- ---- cuts between keys
-
--- the elements begin with these
-abbrev pub begin_with : Items → Items → Bool
-begin_with no_items vs = true
-begin_with (item u us) no_items = false
-begin_with (item u us) (item v vs) = is_eq (collation u v) && begin_with us vs
-
--- a key begins with the values of another, where both are there
-abbrev pub is_front_of : Option Items → Option Items → Bool
-is_front_of None vs = false
-is_front_of (Some us) None = false
-is_front_of (Some us) (Some vs) = begin_with us vs
-
--- the key is an array that begins with the elements of k, which is an array too
-abbrev pub extends_key : Value → Value → Bool
-extends_key k key = is_front_of (items_in k) (items_in key)
 
 -- a key lies above a cut before k where it is k or greater; above a cut after k where it is greater; and above a cut after the
 -- keys that begin with the elements of k where it is greater than k and does not begin with them

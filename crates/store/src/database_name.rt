@@ -7,33 +7,15 @@ ghost use Rattle.std.specs.Cmp.Rules.{comparing};
 ghost use Rattle.std.specs.Cmp.Lexicographic.{pointwise, slice_cmp};
 ghost use Rattle.std.specs.Ordering.{as_partial_cmp, nat_cmp};
 ghost use Rattle.store.specs.DatabaseName.{is_database_name, is_lower_case, is_name_byte, is_sign};
-ghost use Rattle.store.specs.declared.database_name.NameFault.TheVariants.{Memory};
 
-use couch_json::Got;
-use std::alloc::{AllocError, Global};
+use couch_json::{Got, Malformed};
+use std::alloc::Global;
 use std::cmp::Ordering;
 use std::marker::Model;
-use thiserror::Error;
 
-/// Why a text was refused as the name of a database.
-#[derive(Clone, Copy, Debug, PartialEq, Eq, Error)]
-pub enum NameFault {
-    /// It does not begin with a lower-case letter, has another byte than `a-z 0-9 _ $ ( ) + -`, or
-    /// is longer than 64 bytes.
-    #[error("not a database name")]
-    Shape = 1,
-    /// Memory ran out.
-    #[error("out of memory")]
-    Memory = 2,
-}
-
-impl From<AllocError> for NameFault {
-    ghost from_gives = { λ _ fault. fault ≡ Memory };
-
-    fn from(_error: AllocError) -> NameFault {
-        NameFault::Memory
-    }
-}
+/// Why a text was refused as the name of a database. One without the form does not begin with a lower-case letter,
+/// has another byte than `a-z 0-9 _ $ ( ) + -`, or is longer than 64 bytes.
+pub type NameFault = Malformed;
 
 /// The name of a database: a lower-case letter followed by `a-z 0-9 _ $ ( ) + -`, at most 64 bytes.
 ///
@@ -66,7 +48,7 @@ impl DbName {
     /// `Shape` comes if and only if the text is no name; it is looked for before memory is taken.
     pub fn new(alloc: Global, text: &str) -> Result<DbName, NameFault>
         ensures ok { IfOk result (λ name. name ≡ text.now) }
-        ensures shape { IsErrOf result NameFault.Shape ↔ (is_database_name text.now ≡ false) }
+        ensures shape { IsErrOf result Malformed.Shape ↔ (is_database_name text.now ≡ false) }
     {
         if !is_database_name(text.as_bytes()) {
             return Err(NameFault::Shape);

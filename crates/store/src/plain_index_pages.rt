@@ -3,10 +3,11 @@
 ghost use Rattle.std.specs.Prelude.{◌≡◌, ◌≤◌, [], IfOk, IfSome, OnOk, filter, length, map as list_map, option_map};
 ghost use Rattle.std.specs.FinMap as map;
 ghost use Rattle.std.specs.List.{count_by};
+ghost use Rattle.couch_json.specs.KeyCuts.{begin_with, extends_key};
 ghost use Rattle.couch_json.specs.Value.{array};
 ghost use Rattle.couch_json.specs.View.{items_view, view};
 ghost use Rattle.store.specs.Indexes.{index_fields_of, index_over, put_in_index, queried_document};
-ghost use Rattle.store.specs.KeyPages.{begin_with, extends_key, is_above, is_key_before, is_key_within, key_page, lies_above};
+ghost use Rattle.store.specs.KeyPages.{is_above, is_key_before, is_key_within, key_page, lies_above};
 ghost use Rattle.store.specs.KeyPageStructs.{HasKeyCounts, key_page_in, key_page_of};
 ghost use Rattle.store.specs.Pages.{in_direction};
 ghost use Rattle.store.specs.Plain.{document_entries, gathered_after, history_after, place_views, places_over};

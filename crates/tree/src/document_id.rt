@@ -6,33 +6,15 @@ ghost use Rattle.std.specs.Cmp.Rules.{comparing};
 ghost use Rattle.std.specs.Cmp.Lexicographic.{pointwise, slice_cmp};
 ghost use Rattle.std.specs.Ordering.{as_partial_cmp, nat_cmp};
 ghost use Rattle.tree.specs.DocumentId.{extends, is_design_id, is_document_id, is_local_id};
-ghost use Rattle.tree.specs.declared.document_id.IdFault.TheVariants.{Memory};
 
-use couch_json::{Got, NoMemory};
-use std::alloc::{AllocError, Global};
+use couch_json::{Got, Malformed};
+use std::alloc::Global;
 use std::cmp::Ordering;
 use std::marker::Model;
-use thiserror::Error;
 
-/// Why a text was refused as the id of a document.
-#[derive(Clone, Copy, Debug, PartialEq, Eq, Error)]
-pub enum IdFault {
-    /// It is empty, longer than 256 bytes, or begins with `_` other than as `_design/` or
-    /// `_local/` followed by at least one byte.
-    #[error("not a document id")]
-    Shape = 1,
-    /// Memory ran out.
-    #[error("out of memory")]
-    Memory = 2,
-}
-
-impl From<AllocError> for IdFault {
-    ghost from_gives = { λ _ e. e ≡ Memory };
-
-    fn from(_error: AllocError) -> IdFault {
-        IdFault::Memory
-    }
-}
+/// Why a text was refused as the id of a document. One without the form is empty, longer than 256 bytes, or begins
+/// with `_` other than as `_design/` or `_local/` followed by at least one byte.
+pub type IdFault = Malformed;
 
 /// The id of a document: 1 to 256 bytes of UTF-8.
 ///
@@ -67,7 +49,7 @@ impl DocId {
     /// `Shape` comes if and only if the text is no id; it is looked for before memory is taken.
     pub fn new(alloc: Global, text: &str) -> Result<DocId, IdFault>
         ensures ok { IfOk result (λ id. id ≡ text.now) }
-        ensures shape { IsErrOf result IdFault.Shape ↔ (is_document_id text.now ≡ false) }
+        ensures shape { IsErrOf result Malformed.Shape ↔ (is_document_id text.now ≡ false) }
     {
         if !is_document_id(text.as_bytes()) {
             return Err(IdFault::Shape);

@@ -13,7 +13,7 @@ use std::alloc::Global;
 use store::is_database_name;
 
 /// Tells what is wrong with the row of a database, if anything is.
-#[tactic(auto, using(crate::proofs::RowForms::database_sound, crate::proofs::RowForms::database_uncounted, crate::proofs::RowForms::database_unnamed, crate::proofs::RowForms::database_unspelled))]
+#[tactic(auto, using(crate::proofs::RowForms::database_forms))]
 pub(crate) fn judge_database(alloc: Global, row: &Row) -> Result<Option<Wrong>, CheckFault>
     ensures { HasDatabaseCells row.now → IfOk result (Judges (IsDatabaseRow row.now)) }
 {

@@ -37,7 +37,7 @@ fn is_id(bytes: &[u8]) -> bool
 }
 
 /// Tells what is wrong with the row of a document by itself, if anything is.
-#[tactic(auto, using(crate::proofs::RowForms::document_sound, crate::proofs::RowForms::document_uncounted, crate::proofs::RowForms::document_unmarked, crate::proofs::RowForms::document_overmarked, crate::proofs::RowForms::document_unnumbered, crate::proofs::RowForms::document_unnamed))]
+#[tactic(auto, using(crate::proofs::RowForms::document_forms))]
 fn judge_row(row: &Row) -> Option<Wrong>
     ensures { HasDocumentCells row.now → Judges (IsLawfulDocument row.now) result }
 {
@@ -132,7 +132,7 @@ fn read_rows(alloc: Global, rows: Vec<Row>) -> Result<Option<History>, CheckFaul
 
 /// Tells what is wrong with the row of a document beside its database, which is at this sequence, and its history,
 /// if anything is.
-#[tactic(auto, using(crate::proofs::RowForms::owned_so, crate::proofs::RowForms::owned_nowhere, crate::proofs::RowForms::owned_not_within, crate::proofs::RowForms::owned_not_winning, crate::proofs::RowForms::owned_not_held))]
+#[tactic(auto, using(crate::proofs::RowForms::owner_forms))]
 fn judge_owned(
     alloc: Global,
     row: &Row,

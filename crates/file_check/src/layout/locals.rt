@@ -16,7 +16,7 @@ use std::alloc::Global;
 use tree::is_document_id;
 
 /// Tells what is wrong with the row of a local document by itself, if anything is.
-#[tactic(auto, using(crate::proofs::RowForms::local_sound, crate::proofs::RowForms::local_uncounted, crate::proofs::RowForms::local_too_great, crate::proofs::RowForms::local_unnamed, crate::proofs::RowForms::local_unspelled))]
+#[tactic(auto, using(crate::proofs::RowForms::local_forms))]
 fn judge_row(alloc: Global, row: &Row) -> Result<Option<Wrong>, CheckFault>
     ensures { HasLocalCells row.now → IfOk result (Judges (IsLawfulLocal row.now)) }
 {

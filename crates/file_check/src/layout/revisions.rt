@@ -43,7 +43,7 @@ fn shows_nothing(row: &Row) -> bool
 }
 
 /// Tells what is wrong with the cells of what is held of a revision, if anything is.
-#[tactic(auto, using(crate::proofs::RowForms::held_none, crate::proofs::RowForms::held_some, crate::proofs::RowForms::held_uncounted, crate::proofs::RowForms::held_otherwise, crate::proofs::RowForms::held_unmarked, crate::proofs::RowForms::held_overmarked, crate::proofs::RowForms::held_untold, crate::proofs::RowForms::held_unspelled))]
+#[tactic(auto, using(crate::proofs::RowForms::held_forms))]
 fn judge_held(alloc: Global, row: &Row) -> Result<Option<Wrong>, CheckFault>
     ensures { IfOk result (Judges (IsHeldSo row.now)) }
 {
@@ -105,7 +105,7 @@ fn is_following(row: &Row, number: u64, known: bool) -> bool
 
 /// Tells what is wrong with the row of a revision whose document is there or is not, and whose parent is
 /// known or is not, if anything is.
-#[tactic(auto, using(crate::proofs::RevisionForms::revision_sound, crate::proofs::RevisionForms::revision_unowned, crate::proofs::RevisionForms::revision_uncounted, crate::proofs::RevisionForms::revision_unlawful, crate::proofs::RevisionForms::revision_unfollowing, crate::proofs::RevisionForms::revision_unheld))]
+#[tactic(auto, using(crate::proofs::RevisionForms::revision_forms))]
 fn judge_revision(
     alloc: Global,
     row: &Row,

@@ -4,10 +4,8 @@ use Rattle.selector.proofs.bounds.lower.Goals as goal
 
 pub returns-then-is_no_lower : goal.returns-then-is_no_lower
 returns-then-is_no_lower c =
-    let edges = c.in-Some-Some in
-    λ v. and_second _ _ (below_from c.args.first c.args.second edges.edge edges.other v edges.is-0 edges.is-1 (sym c.is_no_lower.ensures ∙ c.if-is_no_lower.true))
+    λ v. and_second _ _ (below_from v c.in-Some-Some.is-0 c.in-Some-Some.is-1 (sym c.is_no_lower.ensures ∙ c.if-is_no_lower.true))
 
 pub returns-else-is_no_lower : goal.returns-else-is_no_lower
 returns-else-is_no_lower c =
-    let edges = c.in-Some-Some in
-    λ v. and_first _ _ (below_to c.args.first c.args.second edges.edge edges.other v edges.is-0 edges.is-1 (sym c.is_no_lower.ensures ∙ c.if-is_no_lower.false))
+    λ v. and_first _ _ (below_to v c.in-Some-Some.is-0 c.in-Some-Some.is-1 (sym c.is_no_lower.ensures ∙ c.if-is_no_lower.false))

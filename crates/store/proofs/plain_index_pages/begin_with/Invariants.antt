@@ -1,6 +1,6 @@
 use Rattle.std.proofs.Common.{◌≡◌, drop}
+use Rattle.couch_json.specs.KeyCuts.{begin_with}
 use Rattle.couch_json.specs.View.{items_view}
-use Rattle.store.specs.KeyPages.{begin_with}
 use Rattle.store.proofs.plain_index_pages.begin_with.Given as goal
 
 abbrev pub invariant-loop-item : goal.invariant-loop-item
