@@ -1,5 +1,5 @@
 -- Lists of the code beside the elements of an array.
-use Rattle.std.proofs.Common.{◌≡◌, suc, ◌+◌, ◌*◌, ◌≤◌, Option, Some, List, [], ◌∷◌, Bool, true, false, length, nat_eq, refl, ap, arith, rules}
+use Rattle.std.proofs.Common.{ℕ, ◌≡◌, suc, ◌+◌, ◌*◌, ◌≤◌, Option, Some, List, [], ◌∷◌, Bool, true, false, length, max, nat_eq, refl, ap, arith, rules}
 use Rattle.couch_json.specs.Value.{Value, depth}
 use Rattle.selector.specs.declared.selector.Selector.TheDeep.{size-Selector}
 use denote.Param.Weighed.{most}
@@ -32,3 +32,7 @@ filled_fault-none (x ∷ xs) among h = search (rules, h)
 pub most_below : (vs : List Value) → most size-Selector vs ≤ 2 * most (λ v. depth v + 1) vs
 most_below [] = omega arith
 most_below (v ∷ vs) = omega (arith, most_below vs)
+
+-- the measure of selectors that a condition lists, by that of the condition
+pub most_within : (deep : ℕ) (vs : List Value) → deep ≡ max (most (λ v. depth v + 1) vs) 0 → most size-Selector vs ≤ 2 * deep
+most_within deep vs is = omega (arith, is, most_below vs)

@@ -1,18 +1,17 @@
-use Rattle.std.proofs.Common.{◌≡◌, ◌+◌, ◌||◌, [], ◌∷◌, Option, Some, true, drop, max, option_map, subst, sym, ap, ◌∙◌, arith}
+use Rattle.std.proofs.Common.{◌≡◌, ◌+◌, ◌||◌, [], ◌∷◌, Option, Some, true, drop, option_map, subst, sym, ap, ◌∙◌, arith}
 use Rattle.std.proofs.lemmas.Grind.{common_steps}
 use Rattle.std.specs.List.{list_all, list_any}
 use Rattle.couch_json.specs.Parts.{is_object}
-use Rattle.couch_json.specs.Value.{Value, depth}
+use Rattle.couch_json.specs.Value.{Value}
 use Rattle.couch_json.specs.View.{items_of}
 use Rattle.selector.specs.Bounds.{contain, path_value}
 use Rattle.selector.specs.Operators.{operator_named}
 use Rattle.selector.specs.Truth.{are_true, is_true, item_truths, member_truth, truths}
 use Rattle.selector.specs.View.{members_of, name_of, value_of}
 use Rattle.selector.specs.declared.selector.Selector.TheDeep.{deep-Condition}
-use denote.Param.Weighed.{most}
 use Rattle.selector.proofs.Edges.{both_true, first_true, second_true}
 use Rattle.selector.proofs.Hulls.{hull_contain, hull_end, hull_step}
-use Rattle.selector.proofs.Lists.{most_below}
+use Rattle.selector.proofs.Lists.{most_within}
 use Rattle.selector.proofs.OneMember.{IsInside-FieldIs, OneMember, OneMember-step}
 use Rattle.selector.proofs.bounds.+bounds.Goals as goal
 
@@ -40,15 +39,11 @@ bounds_in-loop-condition-preserved t c =
 
 pub bounds_of-bounds_of_all-requires : goal.bounds_of-bounds_of_all-requires
 bounds_of-bounds_of_all-requires t c =
-    let step = c.in-List-AllTrue-default in
-    let deep : deep-Condition c.args.condition.now ≡ max (most (λ v. depth v + 1) step.selectors.items) 0 = ap deep-Condition step.is in
-    (omega (arith, c.decreases, deep, most_below step.selectors.items), tt)
+    (omega (arith, c.decreases, most_within (deep-Condition c.args.condition.now) c.in-List-AllTrue-default.selectors.items (ap deep-Condition c.in-List-AllTrue-default.is)), tt)
 
 pub bounds_of-bounds_of_some-requires : goal.bounds_of-bounds_of_some-requires
 bounds_of-bounds_of_some-requires t c =
-    let step = c.in-List-SomeTrue-default in
-    let deep : deep-Condition c.args.condition.now ≡ max (most (λ v. depth v + 1) step.selectors.items) 0 = ap deep-Condition step.is in
-    (omega (arith, c.decreases, deep, most_below step.selectors.items), tt)
+    (omega (arith, c.decreases, most_within (deep-Condition c.args.condition.now) c.in-List-SomeTrue-default.selectors.items (ap deep-Condition c.in-List-SomeTrue-default.is)), tt)
 
 pub bounds_of-returns-in-FieldIs-clause-inside : goal.bounds_of-returns-in-FieldIs-clause-inside
 bounds_of-returns-in-FieldIs-clause-inside t c =

@@ -1,7 +1,3 @@
-use Rattle.std.proofs.Common.{Some, None, Option, ◌≡◌, true, ◌∙◌}
-use Rattle.couch_json.specs.Parts.{is_there_and}
-use Rattle.couch_json.specs.Value.{Value}
-use Rattle.couch_json.specs.View.{items_view}
 use Rattle.selector.proofs.Searches.{is_there-same}
 use Rattle.selector.proofs.bounds.bounds_of_members.Goals as goal
 

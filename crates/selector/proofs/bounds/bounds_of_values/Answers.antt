@@ -1,4 +1,4 @@
-use Rattle.std.proofs.Common.{Some, sym, ap, ◌∙◌}
+use Rattle.std.proofs.Common.{sym, ap, ◌∙◌}
 use Rattle.std.specs.Prelude.{option_copied}
 use Rattle.selector.proofs.Hulls.{ends_contain}
 use Rattle.selector.proofs.bounds.bounds_of_values.Goals as goal

@@ -1,9 +1,9 @@
-use Rattle.std.proofs.Common.{◌≡◌, ◌+◌, ◌||◌, [], ◌∷◌, Option, Some, true, drop, max, subst, ap, ◌∙◌, arith}
+use Rattle.std.proofs.Common.{◌≡◌, ◌+◌, ◌||◌, [], ◌∷◌, Option, Some, true, drop, subst, ap, ◌∙◌, arith}
 use Rattle.std.proofs.lemmas.Grind.{common_steps}
 use Rattle.std.proofs.lemmas.Result.{on_ok_weaker}
 use Rattle.std.specs.List.{list_all, list_any}
 use Rattle.couch_json.specs.Parts.{is_object}
-use Rattle.couch_json.specs.Value.{Value, depth}
+use Rattle.couch_json.specs.Value.{Value}
 use Rattle.couch_json.specs.View.{items_of}
 use Rattle.selector.specs.Bounds.{AreJust, contain, path_value}
 use Rattle.selector.specs.FieldBounds.{bounds_at, has_within}
@@ -11,11 +11,10 @@ use Rattle.selector.specs.Operators.{operator_named}
 use Rattle.selector.specs.Truth.{are_true, is_true, item_truths, member_truth, truths}
 use Rattle.selector.specs.View.{members_of, name_of, value_of}
 use Rattle.selector.specs.declared.selector.Selector.TheDeep.{deep-Condition}
-use denote.Param.Weighed.{most}
 use Rattle.selector.proofs.Edges.{first_true, second_true}
 use Rattle.selector.proofs.FieldTables.{LeftOrOnly, LeftOrOnly-end, LeftOrOnly-next, lie_in_any}
 use Rattle.selector.proofs.Hulls.{hull_step, or_false}
-use Rattle.selector.proofs.Lists.{most_below}
+use Rattle.selector.proofs.Lists.{most_within}
 use Rattle.selector.proofs.OneMember.{OneMember, OneMember-next}
 use Rattle.selector.proofs.field_bounds.+field_bounds.Goals as goal
 
@@ -55,15 +54,11 @@ add_selector-returns-clause-bare t c =
 
 pub add_condition-add_all-requires : goal.add_condition-add_all-requires
 add_condition-add_all-requires t c =
-    let step = c.in-List-AllTrue-default in
-    let deep : deep-Condition c.args.condition.now ≡ max (most (λ v. depth v + 1) step.selectors.items) 0 = ap deep-Condition step.is in
-    (omega (arith, c.decreases, deep, most_below step.selectors.items), tt)
+    (omega (arith, c.decreases, most_within (deep-Condition c.args.condition.now) c.in-List-AllTrue-default.selectors.items (ap deep-Condition c.in-List-AllTrue-default.is)), tt)
 
 pub add_condition-add_some-requires : goal.add_condition-add_some-requires
 add_condition-add_some-requires t c =
-    let step = c.in-List-SomeTrue-default in
-    let deep : deep-Condition c.args.condition.now ≡ max (most (λ v. depth v + 1) step.selectors.items) 0 = ap deep-Condition step.is in
-    (omega (arith, c.decreases, deep, most_below step.selectors.items), tt)
+    (omega (arith, c.decreases, most_within (deep-Condition c.args.condition.now) c.in-List-SomeTrue-default.selectors.items (ap deep-Condition c.in-List-SomeTrue-default.is)), tt)
 
 pub add_all-loop-selector-preserved : goal.add_all-loop-selector-preserved
 add_all-loop-selector-preserved t c =

@@ -1,10 +1,8 @@
-use Rattle.std.proofs.Common.{◌≡◌, ◌+◌, Some, max, sym, ap, ◌∙◌, arith}
-use Rattle.couch_json.specs.Value.{depth}
+use Rattle.std.proofs.Common.{Some, sym, ap, ◌∙◌, arith}
 use Rattle.couch_json.specs.View.{view}
 use Rattle.selector.specs.Truth.{is_true}
 use Rattle.selector.specs.declared.selector.Selector.TheDeep.{deep-Condition}
-use denote.Param.Weighed.{most}
-use Rattle.selector.proofs.Lists.{each_of_there, most_below}
+use Rattle.selector.proofs.Lists.{each_of_there, most_within}
 use Rattle.selector.proofs.matching.+truth.Goals as goal
 
 pub is_true_of_each-returns-then-not-is_empty : goal.is_true_of_each-returns-then-not-is_empty
@@ -15,18 +13,12 @@ is_true_of_each-returns-then-not-is_empty t c =
 
 pub is_condition_true-all_are_true-requires : goal.is_condition_true-all_are_true-requires
 is_condition_true-all_are_true-requires t c =
-    let step = c.in-List-AllTrue-default in
-    let deep : deep-Condition c.args.condition.now ≡ max (most (λ v. depth v + 1) step.selectors.items) 0 = ap deep-Condition step.is in
-    (omega (arith, c.decreases, deep, most_below step.selectors.items), tt)
+    (omega (arith, c.decreases, most_within (deep-Condition c.args.condition.now) c.in-List-AllTrue-default.selectors.items (ap deep-Condition c.in-List-AllTrue-default.is)), tt)
 
 pub is_condition_true-some_is_true-requires : goal.is_condition_true-some_is_true-requires
 is_condition_true-some_is_true-requires t c =
-    let step = c.in-List-SomeTrue-default in
-    let deep : deep-Condition c.args.condition.now ≡ max (most (λ v. depth v + 1) step.selectors.items) 0 = ap deep-Condition step.is in
-    (omega (arith, c.decreases, deep, most_below step.selectors.items), tt)
+    (omega (arith, c.decreases, most_within (deep-Condition c.args.condition.now) c.in-List-SomeTrue-default.selectors.items (ap deep-Condition c.in-List-SomeTrue-default.is)), tt)
 
 pub is_condition_true-some_is_true-requires-in-List-NoneTrue-default : goal.is_condition_true-some_is_true-requires-in-List-NoneTrue-default
 is_condition_true-some_is_true-requires-in-List-NoneTrue-default t c =
-    let step = c.in-List-NoneTrue-default in
-    let deep : deep-Condition c.args.condition.now ≡ max (most (λ v. depth v + 1) step.selectors.items) 0 = ap deep-Condition step.is in
-    (omega (arith, c.decreases, deep, most_below step.selectors.items), tt)
+    (omega (arith, c.decreases, most_within (deep-Condition c.args.condition.now) c.in-List-NoneTrue-default.selectors.items (ap deep-Condition c.in-List-NoneTrue-default.is)), tt)
