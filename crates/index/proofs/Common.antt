@@ -26,7 +26,7 @@ pub use Rattle.tables.proofs.Kept.{numbered-with_cells}
 pub use Rattle.tables.proofs.Queries.{program_on}
 pub use Rattle.tables.proofs.RowMaps.{find_found, find_passes, passing}
 pub use Rattle.tables.proofs.Single.{HasOneAtMost, inserts_row}
-pub use Rattle.tables.proofs.Sorted.{lists}
+pub use Rattle.tables.proofs.Pages.{lists}
 pub use Rattle.tables.proofs.Stays.{keeps_itself, proceeds_then}
 pub use Rattle.tables.proofs.Tables.{decls_plain, entries_plain}
 pub use Rattle.tables.proofs.Writes.{IsCommand}

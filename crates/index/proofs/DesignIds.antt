@@ -15,7 +15,8 @@ use Rattle.store.specs.Pages.{live_rev}
 use Rattle.tables.proofs.Cells.{blob_by, blobs_agree}
 use Rattle.tables.proofs.Common.{IsKeyed, IsStore, docs_tree, nat_list_cmp_total}
 use Rattle.tables.proofs.DocumentStatements.{IsOne, ones, same_db}
-use Rattle.tables.proofs.Pages.{lists_page, page_of, page_program}
+use Rattle.tables.proofs.Pages.{lists_page, page_of}
+use Rattle.tables.proofs.Queries.{page_program}
 use Rattle.tables.specs.Listings.{is_between}
 use Rattle.tables.proofs.ListingOrders.{ascending_within}
 use Rattle.tables.proofs.RowMaps.{text_exact, untied}

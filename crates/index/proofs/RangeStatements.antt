@@ -1,6 +1,7 @@
 -- What the statements on a range of entries mean.
 use Rattle.index.proofs.Common.{AllByRecursion, AreEntryRows, Binary, Blob, Bool, Eq, Equal, HasIndexRows, IfOk, Int, IsCommand, IsEntryRow, Key, List, Ordering, Result, Row, Select, Shown, State, Term, [], all_weaker, and_parts, ap, ap₂, codes, col, column, compares, declaration_of, entries_tree, entry_id, everything, false, holds, int_by, is_entry_in, is_eq, key_of, last_term, list_all, refl, same_int, schema, shown_entry, subst, sym, then_term, true, understood, value_cmp, ℕ, ℤ, ◌∙◌, ◌∷◌, ◌≡◌, ◌≢◌}
-use Rattle.tables.proofs.Pages.{lists_page, page_of, page_program}
+use Rattle.tables.proofs.Pages.{lists_page, page_of}
+use Rattle.tables.proofs.Queries.{page_program}
 use Rattle.index.specs.Rows.{by_place, in_direction, is_entry_between, range_of}
 use Rattle.sqlite_sql.specs.declared.ops.CompareOp.TheVariants.{Ge, Lt}
 use Rattle.sqlite_value.proofs.OrderLemmas.{value_cmp-Blob}

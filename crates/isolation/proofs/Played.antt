@@ -19,6 +19,7 @@ use Rattle.world.specs.declared.fate.Fate.{Fate}
 use Rattle.world.specs.declared.fate.Fate.TheVariants.{Answered, ReplyLost, RequestLost}
 use Rattle.isolation.specs.Isolated.{IsolatedInPlays, NodesRun, PlaysAreTurns}
 use Rattle.isolation.specs.Turns.{AreTurns, HandledStep, IsHandledAs, IsShown, IsStepAt, SeenTurn, sights_in, steps_at, with_handled, with_step}
+use Rattle.world.proofs.Along.{one_node, set_elsewhere, set_here}
 use Rattle.isolation.proofs.Isolations.{isolated_alike}
 
 abbrev Nodes : Type 0
@@ -113,21 +114,6 @@ pub plays_are_turns : PlaysAreTurns
 plays_are_turns old new hs seen p = let t = play_turns old new hs seen p in (t.turns, t.shown, t.are)
 
 -- ---- the run of a node
-
-set_here : {A : Type 0} (xs : List A) (i : ℕ) (x y : A) → slice_get xs i ≡ Some x → slice_get (slice_set xs i y) i ≡ Some y
-set_here [] i x y e = absurd cc
-set_here (z ∷ xs) zero x y e = refl
-set_here (z ∷ xs) (suc i) x y e = set_here xs i x y e
-
-set_elsewhere : {A : Type 0} (xs : List A) (i j : ℕ) (y : A) → j ≢ i → slice_get (slice_set xs i y) j ≡ slice_get xs j
-set_elsewhere [] i j y apart = refl
-set_elsewhere (z ∷ xs) zero zero y apart = absurd (apart refl)
-set_elsewhere (z ∷ xs) zero (suc j) y apart = refl
-set_elsewhere (z ∷ xs) (suc i) zero y apart = refl
-set_elsewhere (z ∷ xs) (suc i) (suc j) y apart = set_elsewhere xs i j y (λ e. apart (ap suc e))
-
-one_node : (a b : Serving Contents) → (let x : Option (Serving Contents) = Some a in x) ≡ Some b → a ≡ b
-one_node a b e = cc
 
 -- a node's run, and where it ends
 record GoesThrough (node : Serving Contents) (steps : List (Stepped Contents)) (new : Nodes) (place : ℕ) : Type 0 where

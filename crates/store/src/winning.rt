@@ -40,12 +40,9 @@ pub fn read_winning<S: Store>(
     ensures reads { OnlyReads S.Store store.old store.new }
 {
     let mut history = History::new(alloc);
-    let Some(winner) = store.winner(db, id)? else {
-        return Ok(history);
-    };
-    let known = store.revision(db, id, &winner.rev)?;
-    let body = take_winner(known, winner.deleted)?;
-    history.put_revision(winner.rev, None, Some((winner.deleted, body)))?;
+    if let Some(winner) = read_held_winner(store, db, id)? {
+        history.put_revision(winner.rev, None, Some((winner.deleted, winner.body)))?;
+    }
     Ok(history)
 }
 

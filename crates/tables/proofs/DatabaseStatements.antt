@@ -1,7 +1,7 @@
 -- What the statements on databases mean.
 use Rattle.tables.proofs.Common.{AllByRecursion, AreDatabaseRows, AreNumbered, Binary, Blob, Changes, Delete, IfOk, Insert, Int, IsStore, Key, List, Null, OnOk, Ran, Result, Row, Select, Shown, State, Term, Text, Update, Values, [], all_of, all_weaker, ap, by_name, cast_row, codes, col, column, database_cells, database_row, dbs_table, dbs_tree, drop, everything, false, filter, filter_all, has_number, holds, is_named, sequence_of_database, list_all, lit, map, name_of, nat_list_cmp_total, number_of, pos, refl, rowid, rows_at_sequence, rows_with_security, schema, security_text, shown_database, shown_name, sort_by, subst, true, understood, ℕ, ℤ, ◌∙◌, ◌∷◌, ◌≡◌, ◌≢◌}
 use Rattle.tables.proofs.RowMaps.{text_exact, untied}
-use Rattle.tables.proofs.Sorted.{lists}
+use Rattle.tables.proofs.Pages.{lists}
 use Rattle.sqlite_typed.proofs.TestLemmas.{last_term}
 use Rattle.sqlite_sql.specs.declared.ops.CompareOp.TheVariants.{Eq}
 use Rattle.tables.proofs.Cells.{blobs_agree, compares, int_by, same_blob, cast_null, cast_int}

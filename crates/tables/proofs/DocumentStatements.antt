@@ -2,7 +2,8 @@
 use Rattle.tables.proofs.Common.{AllByRecursion, AreDocumentRows, Binary, Blob, Bool, Changes, Delete, Equal, IfOk, Insert, Int, IsDocumentRow, IsKeyed, IsStore, IsTotalOrder, Key, List, Null, OnOk, Ordering, Ran, Result, Row, Select, Shown, State, Term, Text, Update, Values, [], all_weaker, and_parts, ap, ap₂, arith, as_count, cast_row, codes, col, column, comes_after, cond, db_of, docs_table, docs_tree, document_cells, document_row, drop, eval, everything, false, filter, filter-map, first_rows, flag, holds, id_of, int_cmp, ints, is_gone_row, is_row_of_database, is_row_of_document, limited, list_all, listed_document, lit, map, nat_cmp, nat_cmp-IsAntisymmetric, nat_cmp_total, nat_list_cmp_total, nat_tests, negsuc, number_of, on_total, ordering_then, pos, refl, row_with_winner, rows_with_winner, same_int, schema, sequence_of_row, sort_by, subst, sym, then-Equal, true, understood, value_cmp, value_cmp-Int, winner, winner_text, ℕ, ℤ, ◌&&◌, ◌∙◌, ◌∷◌, ◌≡◌, ◌≢◌}
 use Rattle.tables.proofs.Cells.{blobs_agree, by_db, by_id, by_later, cast_null, cast_int, tests_db, tests_id, tests_later}
 use Rattle.tables.proofs.RowMaps.{filter_both, text_exact, untied}
-use Rattle.tables.proofs.Sorted.{lists, sorted_left}
+use Rattle.tables.proofs.Pages.{lists}
+use Rattle.tables.proofs.Sorted.{sorted_left}
 use Rattle.tables.specs.Rows as order
 use Rattle.tables.proofs.Queries.{first_program, program_on}
 use Rattle.tables.proofs.Finds.{finds_one}

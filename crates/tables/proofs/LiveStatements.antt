@@ -5,7 +5,8 @@ use Rattle.sqlite_typed.proofs.TestLemmas.{int_test, last_term, then_term}
 use Rattle.tables.proofs.Cells.{blob_by, blobs_agree, compares, int_by}
 use Rattle.tables.proofs.Counts.{count_program, counts}
 use Rattle.tables.proofs.DocumentStatements.{IsOne, headings, listed, ones, same_db}
-use Rattle.tables.proofs.Pages.{lists_page, page_of, page_program}
+use Rattle.tables.proofs.Pages.{lists_page, page_of}
+use Rattle.tables.proofs.Queries.{page_program}
 use Rattle.tables.proofs.RowMaps.{text_exact, untied}
 use Rattle.tables.proofs.Writes.{IsCommand}
 use Rattle.tables.specs.Listings.{by_id_in, has_mark, is_marked_between, live_range, marked_count, shown_count}

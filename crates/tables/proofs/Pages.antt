@@ -3,30 +3,12 @@ use Rattle.tables.proofs.Common.{AllByRecursion, Bool, Err, IfOk, Int, IsAnswer,
 use Rattle.sqlite.specs.Effect.{Answers}
 use Rattle.sqlite_sql.proofs.QueryLemmas.{output_cmp_total}
 use Rattle.std.specs.Prelude.{unwrap_or}
-use Rattle.tables.proofs.Queries.{passed}
+use Rattle.tables.proofs.Queries.{first_on, first_program, page_on, page_program, passed}
 use Rattle.tables.proofs.RowMaps.{passing}
 use Rattle.tables.proofs.Sorted.{both_in, sorted_alike}
 use Rattle.tables.proofs.Writes.{IsCommand}
 use Rattle.tables.specs.Listings.{rows_behind}
 use Rattle.tables.specs.Schema as tables
-
--- the rows of one table that pass all tests, in some order, a page of them
-abbrev pub page_on : ℕ → List Term → List Term → List (Term × Key) → Term → Term → Query
-page_on tree tests shown order limit offset =
-    record {
-      from = inner tree end;
-      filter = tests;
-      group = None;
-      project = shown;
-      distinct = false;
-      collations = [];
-      order = order;
-      limit = limit;
-      offset = offset;
-    }
-
-abbrev pub page_program : ℕ → List Term → List Term → List (Term × Key) → Term → Term → Program
-page_program tree tests shown order limit offset = record { lets = []; body = page_on tree tests shown order limit offset }
 
 -- what a limit and an offset leave of some rows
 pub page_of : {A : Type 0} (most skip : ℤ) (xs : List A) → limited (as_count (Int most)) (drop (unwrap_or (as_count (Int skip)) 0) xs) ≡ first_rows most (rows_behind skip xs)
@@ -68,3 +50,14 @@ module _ (old new : State) (has : old.now.schema ≡ tables.schema) {text : List
       ∙ ap (λ l. limited (as_count (eval most (params ∷ []))) (drop (unwrap_or (as_count (eval skip (params ∷ []))) 0) l))
       (ap (map (λ (o : Output). o.1)) (ordered ∙ sort_by-map (output_cmp q) out found ∙ ap (map out) mine)
       ∙ map-map (λ (o : Output). o.1) out (sort_by by found) ∙ map_same _ show shows (sort_by by found))
+
+-- the first of them: a page that skips nothing
+module _ (old new : State) (has : old.now.schema ≡ tables.schema) {text : List ℕ} {tree : ℕ} {tests shown : List Term} {order : List (Term × Key)} {most : Term} {names : List (List ℕ)}
+    (command : IsCommand tables.schema text (Select (first_program tree tests shown order most) names)) (params : Row) (p : Row → Bool) (show : Row → Row)
+    (P : Row → Type 0) (by : Row → Row → Ordering) (R : Row → Row → Type 0)
+    (agree : (a b : Row) → P a → P b → output_cmp (first_on tree tests shown order most) (output (first_on tree tests shown order most) (params ∷ a ∷ [])) (output (first_on tree tests shown order most) (params ∷ b ∷ [])) ≡ by a b)
+    (apart : (a b : Row) → P a → P b → p a ≡ true → p b ≡ true → R a b → is_eq (by a b) ≡ false) where
+  pub lists : {X E : Type 0} (bare : overlay old.now.trees [] tree ≡ old.now.trees tree) → ((r : Row) → eval_all shown (params ∷ r ∷ []) ≡ show r)
+      → AllByRecursion (λ r. list_all (holds (params ∷ r ∷ [])) tests ≡ p r) (old.now.trees tree) → AllByRecursion P (old.now.trees tree) → IsAscending R (old.now.trees tree)
+      → (r : Result X E) (items : X → List Row) → IfOk r (λ x. Shown text params old new (items x)) → IfOk r (λ x. items x ≡ limited (as_count (eval most (params ∷ []))) (map show (sort_by by (filter p (old.now.trees tree)))))
+  lists = lists_page old new has command params p show P by R agree apart

@@ -5,7 +5,8 @@ use Rattle.sqlite_typed.proofs.TestLemmas.{last_term, then_term}
 use Rattle.tables.proofs.Cells.{blob_by, compares}
 use Rattle.tables.proofs.DocumentStatements.{IsOne, ones}
 use Rattle.tables.proofs.Queries.{program_on}
-use Rattle.tables.proofs.Sorted.{by_their_numbers, lists, sorted_already}
+use Rattle.tables.proofs.Pages.{lists}
+use Rattle.tables.proofs.Sorted.{by_their_numbers, sorted_already}
 use Rattle.tables.proofs.Writes.{IsCommand}
 use Rattle.tables.specs.Listings.{has_id_between, named_document}
 

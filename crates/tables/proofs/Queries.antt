@@ -6,9 +6,9 @@ use Rattle.sqlite.specs.Effect.{Answers}
 abbrev pub unlimited : Term
 unlimited = lit (Int (negsuc 0))
 
--- the rows of one table that pass all tests, in some order, the first of them
-abbrev pub first_on : ℕ → List Term → List Term → List (Term × Key) → Term → Query
-first_on tree tests shown order limit =
+-- the rows of one table that pass all tests, in some order, a page of them
+abbrev pub page_on : ℕ → List Term → List Term → List (Term × Key) → Term → Term → Query
+page_on tree tests shown order limit offset =
     record {
       from = inner tree end;
       filter = tests;
@@ -18,15 +18,22 @@ first_on tree tests shown order limit =
       collations = [];
       order = order;
       limit = limit;
-      offset = lit (Int (pos 0));
+      offset = offset;
     }
+
+abbrev pub page_program : ℕ → List Term → List Term → List (Term × Key) → Term → Term → Program
+page_program tree tests shown order limit offset = record { lets = []; body = page_on tree tests shown order limit offset }
+
+-- the first of them
+abbrev pub first_on : ℕ → List Term → List Term → List (Term × Key) → Term → Query
+first_on tree tests shown order limit = page_on tree tests shown order limit (lit (Int (pos 0)))
 
 -- all of them
 abbrev pub query_on : ℕ → List Term → List Term → List (Term × Key) → Query
 query_on tree tests shown order = first_on tree tests shown order unlimited
 
 abbrev pub first_program : ℕ → List Term → List Term → List (Term × Key) → Term → Program
-first_program tree tests shown order limit = record { lets = []; body = first_on tree tests shown order limit }
+first_program tree tests shown order limit = page_program tree tests shown order limit (lit (Int (pos 0)))
 
 abbrev pub program_on : ℕ → List Term → List Term → List (Term × Key) → Program
 program_on tree tests shown order = first_program tree tests shown order unlimited

@@ -2,7 +2,6 @@
 use Rattle.tables.proofs.Common.{AllByRecursion, Bool, Equal, Err, Greater, IfOk, IsAnswer, IsAscending, IsPermutation, IsTotalOrder, Key, Less, Less-from_lt, List, Null, Ok, Ordering, Output, Query, Result, Row, Select, Shown, State, Term, [], all-filter, all_both, all_weaker, ap, ap₂, as_count, ascending-filter, ascending-map, cond, eval, eval_all, false, filter, flat_map, holds, insert_sorted, int_cmp, is_eq, is_gt, limited, list_all, map, map-map, map_same, number_of, ordering_reverse, output, output_cmp, overlay, reads_as, refl, sort_by, sort_by-map, sorted_is-sort_by, subst, sym, true, upto, ℕ, ◌<ℤ◌, ◌∙◌, ◌∷◌, ◌≡◌}
 use Rattle.sqlite_sql.proofs.QueryLemmas.{output_cmp_total}
 use Rattle.sqlite.specs.Effect.{Answers}
-use Rattle.tables.proofs.Queries.{first_program, first_on, passed}
 use Rattle.tables.proofs.RowMaps.{passing}
 use Rattle.tables.proofs.Writes.{IsCommand}
 use Rattle.tables.specs.Schema as tables
@@ -81,41 +80,6 @@ module _ (cmp : Row → Row → Ordering) (total : IsTotalOrder cmp) where
     sorted_left (r ∷ rows) =
         put_left r (sort_by cmp rows) (rises rows) ∙ ap (λ l. cond (p r) (insert_sorted cmp r l) l) (sorted_left rows)
         ∙ elim (p r) as (λ b. cond b (insert_sorted cmp r (sort_by cmp (filter p rows))) (sort_by cmp (filter p rows)) ≡ sort_by cmp (cond b (r ∷ filter p rows) (filter p rows))) [ true ↦ refl | false ↦ refl ]
-
--- ---- the answer
-
-module _ (old new : State) (has : old.now.schema ≡ tables.schema) {text : List ℕ} {tree : ℕ} {tests shown : List Term} {order : List (Term × Key)} {most : Term} {names : List (List ℕ)}
-    (command : IsCommand tables.schema text (Select (first_program tree tests shown order most) names)) (params : Row) (p : Row → Bool) (show : Row → Row)
-    (P : Row → Type 0) (by : Row → Row → Ordering) (R : Row → Row → Type 0)
-    (agree : (a b : Row) → P a → P b → output_cmp (first_on tree tests shown order most) (output (first_on tree tests shown order most) (params ∷ a ∷ [])) (output (first_on tree tests shown order most) (params ∷ b ∷ [])) ≡ by a b)
-    (apart : (a b : Row) → P a → P b → p a ≡ true → p b ≡ true → R a b → is_eq (by a b) ≡ false) where
-  pub lists : {X E : Type 0} (bare : overlay old.now.trees [] tree ≡ old.now.trees tree) → ((r : Row) → eval_all shown (params ∷ r ∷ []) ≡ show r)
-      → AllByRecursion (λ r. list_all (holds (params ∷ r ∷ [])) tests ≡ p r) (old.now.trees tree) → AllByRecursion P (old.now.trees tree) → IsAscending R (old.now.trees tree)
-      → (r : Result X E) (items : X → List Row) → IfOk r (λ x. Shown text params old new (items x)) → IfOk r (λ x. items x ≡ limited (as_count (eval most (params ∷ []))) (map show (sort_by by (filter p (old.now.trees tree)))))
-  lists bare shows passes all up (Err e) items h = tt
-  lists bare shows passes all up (Ok x) items h =
-      let q : Query = first_on tree tests shown order most in
-      let out : Row → Output = λ r. output (first_on tree tests shown order most) (params ∷ r ∷ []) in
-      let rows : List Row = old.now.trees tree in
-      let found : List Row = filter p rows in
-      let answers : Answers old.now (first_program tree tests shown order most) params (items x) =
-      reads_as text params old new tables.schema has (Select (first_program tree tests shown order most) names) command.is command.plain command.unlisted (items x) h in
-      let a : IsAnswer q (overlay old.now.trees []) params (items x) = answers.answer Null in
-      let staged : a.staged ≡ map (λ r. params ∷ r ∷ []) found =
-      a.grouped ∙ ap (flat_map (λ r. cond (list_all (holds (params ∷ r ∷ [])) tests) ((params ∷ r ∷ []) ∷ []) [])) bare ∙ passed tests params p rows passes in
-      let kept : a.kept ≡ map out found = a.distinct ∙ ap (map (output q)) staged ∙ map-map (output q) (λ r. params ∷ r ∷ []) found in
-      let own : AllByRecursion (λ r. P r × (p r ≡ true)) found = all_both P (λ r. p r ≡ true) (λ r. P r × (p r ≡ true)) (λ r k passes. (k, passes)) found (all-filter P p rows all) (passing p rows) in
-      let untied : IsAscending (λ a b. is_eq (output_cmp q (out a) (out b)) ≡ false) found =
-      both_in (λ r. P r × (p r ≡ true)) R (λ a b. is_eq (output_cmp q (out a) (out b)) ≡ false)
-      (λ a b k l r. ap is_eq (agree a b k.0 l.0) ∙ apart a b k.0 l.0 k.1 l.1 r) found own (ascending-filter R p rows up) in
-      let ordered : a.ordered ≡ sort_by (output_cmp q) (map out found) =
-      sorted_is-sort_by (output_cmp q) (output_cmp_total q) (map out found) a.ordered (ascending-map (λ x y. is_eq (output_cmp q x y) ≡ false) out found untied)
-      (subst (λ l. IsPermutation l a.ordered) kept a.same) a.sorted in
-      let mine : sort_by (λ a b. output_cmp q (out a) (out b)) found ≡ sort_by by found = sorted_alike P (λ a b. output_cmp q (out a) (out b)) by agree found (all-filter P p rows all) in
-      a.shown
-      ∙ ap (limited (as_count (eval most (params ∷ []))))
-      (ap (map (λ (o : Output). o.1)) (ordered ∙ sort_by-map (output_cmp q) out found ∙ ap (map out) mine)
-      ∙ map-map (λ (o : Output). o.1) out (sort_by by found) ∙ map_same _ show shows (sort_by by found))
 
 -- ---- rows by their numbers, which rise
 

@@ -89,12 +89,12 @@ step_onward c before m r after name db now step there here = by (step_change c b
         (answer_later c before m name db (λ gone. let none : None ≡ Some now = sym (removed_at before name) ∙ ap (λ (x : Change). get (with_change x before) name) (sym gone) ∙ left in cc) there)
     by (inr e) = let same : db ≡ now = (let k : Some db ≡ Some now = sym there ∙ ap (λ (x : Contents). get x name) (sym e) ∙ here in cc) in subst (λ (y : Database). IsLater db y) same (later_itself db)
 
-set_here : {A : Type 0} (xs : List A) (i : ℕ) (x y : A) → slice_get xs i ≡ Some x → slice_get (slice_set xs i y) i ≡ Some y
+pub set_here : {A : Type 0} (xs : List A) (i : ℕ) (x y : A) → slice_get xs i ≡ Some x → slice_get (slice_set xs i y) i ≡ Some y
 set_here [] i x y e = absurd cc
 set_here (z ∷ xs) zero x y e = refl
 set_here (z ∷ xs) (suc i) x y e = set_here xs i x y e
 
-set_elsewhere : {A : Type 0} (xs : List A) (i j : ℕ) (y : A) → j ≢ i → slice_get (slice_set xs i y) j ≡ slice_get xs j
+pub set_elsewhere : {A : Type 0} (xs : List A) (i j : ℕ) (y : A) → j ≢ i → slice_get (slice_set xs i y) j ≡ slice_get xs j
 set_elsewhere [] i j y apart = refl
 set_elsewhere (z ∷ xs) zero zero y apart = absurd (apart refl)
 set_elsewhere (z ∷ xs) zero (suc j) y apart = refl
@@ -105,7 +105,7 @@ set_elsewhere (z ∷ xs) (suc i) (suc j) y apart = set_elsewhere xs i j y (λ e.
 abbrev GoesOnAt : Nodes → Nodes → ℕ → List ℕ → Type 0
 GoesOnAt old new place name = (db : Database) → IsAt old place name db → (now : Database) × IsAt new place name now × IsLater db now
 
-one_node : (a b : Serving Contents) → (let x : Option (Serving Contents) = Some a in x) ≡ Some b → a ≡ b
+pub one_node : (a b : Serving Contents) → (let x : Option (Serving Contents) = Some a in x) ≡ Some b → a ≡ b
 one_node a b e = cc
 
 one_database : (a b : Database) → (let x : Option Database = Some a in x) ≡ Some b → a ≡ b
