@@ -2,7 +2,6 @@
 use Rattle.std.proofs.Common.{◌≡◌, Err, ℕ, List, Option, Some, None, Result, option_map, refl, sym, ap, subst, ◌∙◌}
 use Rattle.std.specs.Prelude.{IsTrue, MatchOption, is_some, option_and_then, ◌⊎◌}
 use Rattle.std.specs.FinMap as map
-use Rattle.couch_json.specs.Value.{Value}
 use Rattle.tree.specs.Revision.{Revision}
 use Rattle.tree.specs.History.{HistoryContent, IsBetter, held_of, is_deleted, is_leaf, winner}
 use Rattle.tree.specs.Outline.{marked_revision, marked_winner}

@@ -1,5 +1,5 @@
 -- What a query with an order, a limit and an offset answers, where no two rows tie.
-use Rattle.tables.proofs.Common.{AllByRecursion, Bool, Err, IfOk, Int, IsAnswer, IsAscending, IsPermutation, Key, List, None, Null, Ok, Ordering, Output, Program, Query, Result, Row, Select, Shown, State, Term, [], all-filter, all_both, ap, as_count, ascending-filter, ascending-map, cond, drop, end, eval, eval_all, false, filter, first_rows, flat_map, holds, inner, is_eq, limited, list_all, map, map-map, map_same, negsuc, output, output_cmp, overlay, pos, reads_as, refl, sort_by, sort_by-map, sorted_is-sort_by, subst, true, ℕ, ℤ, ◌∙◌, ◌∷◌, ◌≡◌}
+use Rattle.tables.proofs.Common.{AllByRecursion, Bool, Err, IfOk, Int, IsAnswer, IsAscending, IsPermutation, Key, List, Null, Ok, Ordering, Output, Query, Result, Row, Select, Shown, State, Term, [], all-filter, all_both, ap, as_count, ascending-filter, ascending-map, cond, drop, eval, eval_all, false, filter, first_rows, flat_map, holds, is_eq, limited, list_all, map, map-map, map_same, negsuc, output, output_cmp, overlay, pos, reads_as, refl, sort_by, sort_by-map, sorted_is-sort_by, subst, true, ℕ, ℤ, ◌∙◌, ◌∷◌, ◌≡◌}
 use Rattle.sqlite.specs.Effect.{Answers}
 use Rattle.sqlite_sql.proofs.QueryLemmas.{output_cmp_total}
 use Rattle.std.specs.Prelude.{unwrap_or}

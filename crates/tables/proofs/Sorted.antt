@@ -1,9 +1,5 @@
 -- What a query with an order answers, where no two rows tie.
-use Rattle.tables.proofs.Common.{AllByRecursion, Bool, Equal, Err, Greater, IfOk, IsAnswer, IsAscending, IsPermutation, IsTotalOrder, Key, Less, Less-from_lt, List, Null, Ok, Ordering, Output, Query, Result, Row, Select, Shown, State, Term, [], all-filter, all_both, all_weaker, ap, ap₂, as_count, ascending-filter, ascending-map, cond, eval, eval_all, false, filter, flat_map, holds, insert_sorted, int_cmp, is_eq, is_gt, limited, list_all, map, map-map, map_same, number_of, ordering_reverse, output, output_cmp, overlay, reads_as, refl, sort_by, sort_by-map, sorted_is-sort_by, subst, sym, true, upto, ℕ, ◌<ℤ◌, ◌∙◌, ◌∷◌, ◌≡◌}
-use Rattle.sqlite_sql.proofs.QueryLemmas.{output_cmp_total}
-use Rattle.sqlite.specs.Effect.{Answers}
-use Rattle.tables.proofs.RowMaps.{passing}
-use Rattle.tables.proofs.Writes.{IsCommand}
+use Rattle.tables.proofs.Common.{AllByRecursion, Bool, Equal, Greater, IsAscending, IsTotalOrder, Less, Less-from_lt, List, Ordering, Row, [], all-filter, all_both, all_weaker, ap, ap₂, cond, false, filter, insert_sorted, int_cmp, is_gt, number_of, ordering_reverse, refl, sort_by, sym, true, upto, ◌<ℤ◌, ◌∙◌, ◌∷◌, ◌≡◌}
 use Rattle.tables.specs.Schema as tables
 
 -- ---- two orders that agree on the rows sort them alike

@@ -5,7 +5,6 @@ use Rattle.store.proofs.HeldWinners.{held_there, told_damaged}
 use Rattle.store.specs.Contents.{Contents}
 use Rattle.store.specs.Database.{Database, history_at}
 use Rattle.std.specs.Prelude.{Some, option_map}
-use Rattle.tree.specs.Outline.{marked_winner}
 use Rattle.store.proofs.winning.read_held_winner.Goals as goal
 
 pub returns-in_err-body-clause-answer : goal.returns-in_err-body-clause-answer
