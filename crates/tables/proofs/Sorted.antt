@@ -1,4 +1,4 @@
--- What a query with an order answers, where no two rows tie.
+-- Rows in an order: two orders that agree, what a filter leaves of sorted rows, and rows by their numbers.
 use Rattle.tables.proofs.Common.{AllByRecursion, Bool, Equal, Greater, IsAscending, IsTotalOrder, Less, Less-from_lt, List, Ordering, Row, [], all-filter, all_both, all_weaker, ap, ap₂, cond, false, filter, insert_sorted, int_cmp, is_gt, number_of, ordering_reverse, refl, sort_by, sym, true, upto, ◌<ℤ◌, ◌∙◌, ◌∷◌, ◌≡◌}
 use Rattle.tables.specs.Schema as tables
 
