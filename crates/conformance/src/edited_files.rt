@@ -1,9 +1,8 @@
 //! Files in which somebody edited a row, or took one out.
 
 use crate::first_version::turn_back;
-use crate::local_client::{DESIGN, FAILED, node, reply_to, request, root_request};
-use couch_http::Request;
-use sqlite::{Alter, Connection, MemStore};
+use crate::local_client::{DESIGN, FAILED, node, reply, reply_to, root_request};
+use sqlite::{Connection, MemStore};
 use sqlstore::{OpenFault, SqlStore};
 use std::alloc::Global;
 use std::test::Fail;
@@ -196,20 +195,10 @@ const REFUSED: [&str; 5] = [
     "BEGIN",
 ];
 
-/// The same of version 1.
-const REFUSED_FIRST: [&str; 7] = [
-    LOST,
-    UNRULED,
-    "DELETE FROM revs WHERE id = X'61'",
-    "UPDATE revs SET held = 0 WHERE id = X'61'",
-    "UPDATE docs SET winner = '-' WHERE id = X'61'",
-    "UPDATE revs SET hash = '-' WHERE id = X'62'",
-    "DELETE FROM revs WHERE id = X'62'",
-];
-
-/// Writes the filling over a connection to no tables, and returns it.
-fn fill_tables<S: Alter + Drop>(alloc: Global, conn: Connection<S>) -> Result<Connection<S>, Fail> {
-    let mut node = node(alloc, open_store(alloc, conn)?)?;
+/// Returns tables in memory that hold the filling.
+fn fill_tables(alloc: Global) -> Result<Connection<MemStore>, Fail> {
+    let store = open_store(alloc, Connection::open_in_memory(alloc)?)?;
+    let mut node = node(alloc, store)?;
     for (line, body) in FILLING {
         let told = reply_to(alloc, &mut node, &root_request(alloc, line, body)?)?;
         if !told.as_str().starts_with("20") {
@@ -219,22 +208,15 @@ fn fill_tables<S: Alter + Drop>(alloc: Global, conn: Connection<S>) -> Result<Co
     Ok(node.into_store().close())
 }
 
-/// Returns tables in memory that hold the filling, after a statement.
+/// Returns the same after a statement.
 fn edit_tables(alloc: Global, sql: &str) -> Result<Connection<MemStore>, Fail> {
-    let mut conn = fill_tables(alloc, Connection::open_in_memory(alloc)?)?;
+    let mut conn = fill_tables(alloc)?;
     let _count = conn.execute(sql, &[])?;
     Ok(conn)
 }
 
-/// Returns the same, turned back to version 1.
-fn edit_first_version(alloc: Global, sql: &str) -> Result<Connection<MemStore>, Fail> {
-    let mut conn = edit_tables(alloc, sql)?;
-    turn_back(&mut conn)?;
-    Ok(conn)
-}
-
 /// Opens a store.
-fn open_store<S: Alter + Drop>(alloc: Global, conn: Connection<S>) -> Result<SqlStore<S>, Fail> {
+fn open_store(alloc: Global, conn: Connection<MemStore>) -> Result<SqlStore<MemStore>, Fail> {
     match SqlStore::open(alloc, conn) {
         Ok(store) => Ok(store),
         Err((fault, _conn)) => Err(Fail::from(fault)),
@@ -242,21 +224,11 @@ fn open_store<S: Alter + Drop>(alloc: Global, conn: Connection<S>) -> Result<Sql
 }
 
 /// Returns why a store is not opened, if it isn't.
-fn refusal<S: Alter + Drop>(alloc: Global, conn: Connection<S>) -> Option<OpenFault> {
+fn refusal(alloc: Global, conn: Connection<MemStore>) -> Option<OpenFault> {
     match SqlStore::open(alloc, conn) {
         Ok(_store) => None,
         Err((fault, _conn)) => Some(fault),
     }
-}
-
-/// Opens a store, and returns its reply to a request.
-fn reply_over<S: Alter + Drop>(
-    alloc: Global,
-    conn: Connection<S>,
-    request: &Request,
-) -> Result<String, Fail> {
-    let mut node = node(alloc, open_store(alloc, conn)?)?;
-    reply_to(alloc, &mut node, request)
 }
 
 /// A row that is gone is told as a failure of the store, and never as missing; a rule whose design document
@@ -265,43 +237,56 @@ fn reply_over<S: Alter + Drop>(
 fn edited_file(rt: HostRuntime) -> Result<(), Fail> {
     let alloc = rt.alloc();
     for (sql, line, body, wanted) in EDITS {
-        let request = request(alloc, line, body)?;
-        let told = reply_over(alloc, edit_tables(alloc, sql)?, &request)?;
-        assert_eq!(rt; told.as_str(), wanted, "{sql}: {line} {body}");
+        let mut node = node(alloc, open_store(alloc, edit_tables(alloc, sql)?)?)?;
+        assert_eq!(rt;
+            reply(alloc, &mut node, line, body)?.as_str(),
+            wanted,
+            "{sql}: {line} {body}"
+        );
     }
     for (sql, line, body) in ADMIN_EDITS {
+        let mut node = node(alloc, open_store(alloc, edit_tables(alloc, sql)?)?)?;
         let request = root_request(alloc, line, body)?;
-        let told = reply_over(alloc, edit_tables(alloc, sql)?, &request)?;
-        assert_eq!(rt; told.as_str(), FAILED, "{sql}: {line}");
+        assert_eq!(rt;
+            reply_to(alloc, &mut node, &request)?.as_str(),
+            FAILED,
+            "{sql}: {line}"
+        );
     }
     Ok(())
 }
 
-/// Tables that are not a store, of either version, are told not to be ours.
+/// Tables that are not a store, of either version, are told not to be ours; others are given those of a store.
 #[test]
 fn tables_of_others(rt: HostRuntime) -> Result<(), Fail> {
     let alloc = rt.alloc();
     for sql in REFUSED {
-        let why = refusal(alloc, edit_tables(alloc, sql)?);
-        assert_eq!(rt; why, Some(OpenFault::NotOurs), "{sql}");
+        assert_eq!(rt;
+            refusal(alloc, edit_tables(alloc, sql)?),
+            Some(OpenFault::NotOurs),
+            "{sql}"
+        );
     }
-    for sql in REFUSED_FIRST {
-        let why = refusal(alloc, edit_first_version(alloc, sql)?);
-        assert_eq!(rt; why, Some(OpenFault::NotOurs), "{sql}");
-    }
-    Ok(())
-}
-
-/// Tables of version 1 are carried over, and other tables are given those of a store.
-#[test]
-fn tables_that_become_a_store(rt: HostRuntime) -> Result<(), Fail> {
-    let alloc = rt.alloc();
-    let mut conn = fill_tables(alloc, Connection::open_in_memory(alloc)?)?;
+    let mut conn = fill_tables(alloc)?;
     turn_back(&mut conn)?;
     assert_eq!(rt; refusal(alloc, conn), None);
+    for sql in [
+        LOST,
+        UNRULED,
+        "DELETE FROM revs WHERE id = X'61'",
+        "UPDATE revs SET held = 0 WHERE id = X'61'",
+        "UPDATE docs SET winner = '-' WHERE id = X'61'",
+        "UPDATE revs SET hash = '-' WHERE id = X'62'",
+        "DELETE FROM revs WHERE id = X'62'",
+    ] {
+        let mut conn = edit_tables(alloc, sql)?;
+        turn_back(&mut conn)?;
+        assert_eq!(rt; refusal(alloc, conn), Some(OpenFault::NotOurs), "{sql}");
+    }
     let mut conn = Connection::open_in_memory(alloc)?;
     let _count = conn.execute("CREATE TABLE other (x INTEGER)", &[])?;
-    let told = reply_over(alloc, conn, &root_request(alloc, "GET /_all_dbs", "")?)?;
-    assert_eq!(rt; told.as_str(), "200 []");
+    let mut node = node(alloc, open_store(alloc, conn)?)?;
+    let request = root_request(alloc, "GET /_all_dbs", "")?;
+    assert_eq!(rt; reply_to(alloc, &mut node, &request)?.as_str(), "200 []");
     Ok(())
 }

@@ -1,7 +1,7 @@
 use crate::local_client::{node, reply_to, root_request, store_in_tables};
+use sqlstore::MemoryStore;
 use std::alloc::Global;
 use std::test::Fail;
-use store::Store;
 
 /// A design document with one index, as another node pushes it.
 const DESIGN: &str =
@@ -86,12 +86,12 @@ fn thousand(alloc: Global) -> Result<String, Fail> {
 }
 
 /// Returns the reply to a request, and the store.
-fn ask<S: Store + Drop>(
+fn ask(
     alloc: Global,
-    store: S,
+    store: MemoryStore,
     line: &str,
     body: &str,
-) -> Result<(String, S), Fail> {
+) -> Result<(String, MemoryStore), Fail> {
     let mut node = node(alloc, store)?;
     let told = reply_to(alloc, &mut node, &root_request(alloc, line, body)?)?;
     Ok((told, node.into_store()))

@@ -6,7 +6,6 @@ use sqlstore::{OpenFault, SqlStore};
 use std::alloc::Global;
 use std::process::Termination;
 use std::test::Fail;
-use store::Store;
 
 /// What the admin `root` writes: a declared index, and a document that has a row in it, of the key `[5]`.
 pub const FILLING: [(&str, &str); 4] = [
@@ -37,14 +36,7 @@ pub fn turn_back<S: Alter + Drop>(conn: &mut Connection<S>) -> Result<(), Fail> 
 
 /// Returns tables of version 1 in memory.
 fn first_version(alloc: Global) -> Result<Connection<MemStore>, Fail> {
-    fill_first_version(alloc, Connection::open_in_memory(alloc)?)
-}
-
-/// Writes the filling over a connection to no tables, and makes them those of version 1.
-fn fill_first_version<S: Alter + Drop>(
-    alloc: Global,
-    conn: Connection<S>,
-) -> Result<Connection<S>, Fail> {
+    let conn = Connection::open_in_memory(alloc)?;
     let Ok(store) = SqlStore::open(alloc, conn) else {
         return Err(Fail::from("not opened"));
     };
@@ -61,7 +53,7 @@ fn fill_first_version<S: Alter + Drop>(
 }
 
 /// Opens a store, and once more where memory ran out.
-fn open_again<S: Alter + Drop>(alloc: Global, conn: Connection<S>) -> Result<SqlStore<S>, Fail> {
+fn open_again(alloc: Global, conn: Connection<MemStore>) -> Result<SqlStore<MemStore>, Fail> {
     let conn = match SqlStore::open(alloc, conn) {
         Ok(store) => return Ok(store),
         Err((OpenFault::Memory, conn)) => conn,
@@ -74,7 +66,7 @@ fn open_again<S: Alter + Drop>(alloc: Global, conn: Connection<S>) -> Result<Sql
 }
 
 /// Returns what the index of a store shows, asked once more where memory ran out.
-fn view_again<S: Store + Drop>(alloc: Global, store: S) -> Result<String, Fail> {
+fn view_again(alloc: Global, store: SqlStore<MemStore>) -> Result<String, Fail> {
     let request = root_request(alloc, VIEW.0, "")?;
     let mut node = node(alloc, store)?;
     let told = reply_to(alloc, &mut node, &request)?;
