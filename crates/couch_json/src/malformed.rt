@@ -6,7 +6,7 @@ use std::alloc::{AllocError, AllocFailed};
 use thiserror::Error;
 
 /// Why a text or a value was refused by a call that reads one form: a field path, an id, a name, a security
-/// object, or a query. What the form is stands at the name that the call's crate gives this type.
+/// object, or a query. The crate of such a call has a name of its own for this type, which says what the form is.
 #[derive(Clone, Copy, Debug, PartialEq, Eq, Error)]
 pub enum Malformed {
     /// It does not have the form.
