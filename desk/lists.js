@@ -3,7 +3,7 @@ import {LIMIT, TooLong, ask, askLeaves, askUnless, orTooLong, pathTo, query} fro
 import {write} from "./json.js";
 import {button, el, form, field, heading, link, megabytes, pages, row, shortRev, table} from "./elements.js";
 
-const PAGE = 25, MOST = 200;
+const PAGE = 25, MOST = 500;
 
 /** Shows the databases to server admins; others enter the name of one. */
 export async function databases(page) {
@@ -26,14 +26,6 @@ async function* changeParts(db, options) {
       limit = Math.min(Math.max(limit, 1) * 2, MOST);
     }
   }
-}
-
-/** Processes the items, six at once: browsers open six connections to a server. */
-async function each(items, work) {
-  const rest = items[Symbol.iterator]();
-  await Promise.all(Array.from({length: 6}, async () => {
-    for (const item of rest) await work(item);
-  }));
 }
 
 const revsOf = leaves => leaves.map(leaf => shortRev(leaf.rev ?? leaf._rev)).slice(0, 5).join(" ");
@@ -61,8 +53,9 @@ export async function conflicts(page, db) {
   try {
     for await (const {results, since} of changeParts(db, options)) {
       const many = results.filter(({changes}) => !changes || changes.length > 1), rows = [];
-      // All at once, as each row that is added has the table laid out again.
-      await each(many, async change => rows.push(await conflictOf(db, change, options))).finally(() => found.append(...rows.filter(Boolean)));
+      // All at once: browsers queue requests with less work than a script, and each row that is added has the table laid out again.
+      const seen = many.map(async change => rows.push(await conflictOf(db, change, options)));
+      await Promise.all(seen).finally(() => found.append(...rows.filter(Boolean)));
       looked += results.length;
       bar.value = Number(since);
       tellFound(" so far");

@@ -35,6 +35,13 @@ for (let took = 0; took < 20000; took = performance.now() - begun) {
 return 20000;
 """
 
+# Fetches paths, all at once, and returns how many milliseconds that took.
+FETCHED = """
+const begun = performance.now();
+await Promise.all(args[0].map(async path => (await fetch(location.origin + path, {cache: 'no-store'})).text()));
+return performance.now() - begun;
+"""
+
 # Returns the elements without a name for screen readers.
 UNLABELLED = """
 const isLabelled = one => one.getAttribute('aria-label') || one.labels?.length || (one.matches('a, button, summary') && one.textContent.trim());
