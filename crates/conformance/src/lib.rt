@@ -1,6 +1,6 @@
 //! Tests of what has to fail: a refused allocation, a store, a disk, a reader and a writer that fail, also
-//! among many connections. One more compares a socket with memory. All that a reply can show stands in rows of
-//! data, in the crates `values` and `requests`. Two functions say why a request is a 500.
+//! among many connections. All that a reply can show stands in rows of data, in the crates `values` and
+//! `requests`. Two functions say why a request is a 500.
 #![tactic(auto)]
 
 #[cfg(test)]
@@ -21,13 +21,9 @@ mod first_version;
 #[cfg(test)]
 mod local_client;
 #[cfg(test)]
-mod loopback;
-#[cfg(test)]
 mod many;
 #[cfg(test)]
 mod passes;
-#[cfg(test)]
-mod scripts;
 #[cfg(test)]
 mod services;
 #[cfg(test)]

@@ -1,4 +1,7 @@
 """Many connections that are open at once."""
+from __future__ import annotations
+
+import argparse
 import contextlib
 import socket
 import threading
@@ -141,8 +144,54 @@ def check_one_more(options, file):
     server.ended("one more than may be")
 
 
+def check_sizes(options: argparse.Namespace, file: str) -> None:
+    """Whatever sizes the pieces of requests have, the replies are the same, and those to the last request the last."""
+    server = Server(options, file, 7, at_once=2)
+    with connected(server.port) as made:
+        asks("a database", made, request("PUT", "/db"), reply(201, {"ok": True}))
+        asks("a document", made, request("PUT", "/db/a", {"by": 2}), reply(201, {"id": "a", "ok": True, "rev": first_revision({"by": 2})}))
+    sent, wanted = two_requests()
+    for size in (1, 2, 7, 41, 100, len(sent)):
+        with connected(server.port) as made:
+            made.setsockopt(socket.IPPROTO_TCP, socket.TCP_NODELAY, 1)
+            # What is sent behind the last request may meet a connection that has ended.
+            with contextlib.suppress(OSError):
+                for start in range(0, len(sent), size):
+                    made.sendall(sent[start : start + size])
+            compare(f"pieces of {size} bytes", wanted, received(made, len(wanted) + 1))
+    server.ended("pieces of any size")
+
+
+def two_requests() -> tuple[bytes, bytes]:
+    """Returns a read and a last request, with a beginning of a third behind them, and the replies to the two."""
+    sent = request("GET", "/db/a") + request("GET", "/", user=None, more=["Connection: close"]) + b"GET"
+    read = reply(200, {"_id": "a", "_rev": first_revision({"by": 2}), "by": 2})
+    return sent, read + reply(200, {"couchdb": "Welcome", "version": "3-profile"}, last=True)
+
+
+def check_ends(options: argparse.Namespace, file: str) -> None:
+    """A client that ends after any byte has the replies to the requests that were whole, and nothing else."""
+    sent, wanted = two_requests()
+    first = len(request("GET", "/db/a"))
+    last = len(sent) - len(b"GET")
+    server = Server(options, file, last + 1, at_once=AT_ONCE)
+    with connected(server.port) as made:
+        asks("a database", made, request("PUT", "/db"), reply(201, {"ok": True}))
+        asks("a document", made, request("PUT", "/db/a", {"by": 2}), reply(201, {"id": "a", "ok": True, "rev": first_revision({"by": 2})}))
+    read = len(reply(200, {"_id": "a", "_rev": first_revision({"by": 2}), "by": 2}))
+    for length in range(1, last + 1):
+        with connected(server.port) as made:
+            made.sendall(sent[:length])
+            made.shutdown(socket.SHUT_WR)
+            whole = len(wanted) if length == last else read if length >= first else 0
+            compare(f"an end after {length} bytes", wanted[:whole], rest_of(made))
+    server.ended("ends within requests")
+
+
 def check(options, folder):
     """Opens many connections at once."""
+    check_sizes(options, f"{folder}/sizes.db")
+    check_ends(options, f"{folder}/ends.db")
     check_clients(options, f"{folder}/clients.db")
     check_takes_nothing(options, f"{folder}/taker.db")
     check_ahead(options, f"{folder}/ahead.db")

@@ -1,10 +1,19 @@
-"""Runs in the lab that have as many exchanges as one may."""
+"""Runs in the lab that have as many exchanges as one may, and scripts on streams that fail."""
+from __future__ import annotations
+
+import argparse
 import json
+import os
 import shlex
+import signal
+import socket
 import subprocess
+import tempfile
+import threading
+from typing import Any
 
 from lib.checks import compare
-from lib.server import ADMIN, SECRET
+from lib.server import ADMIN, SECRET, resets
 
 
 def check_run(options):
@@ -27,6 +36,62 @@ run r
         compare(f"a run of {count + 7} exchanges: the last line", last, lines[-1].split(" ")[1])
 
 
+FIRST = """node A
+public A db
+conn A c1
+send c1 PUT /db/a HTTP/1.1\\r\\nContent-Length: 7\\r\\n\\r\\n{"v":1}
+send c1 GET /db/a HTTP/1.1\\r\\n\\r\\n
+"""
+PRINTED = """c1 201 {"id":"a","ok":true,"rev":"1-16dd5aa7b10d32bc038d45f5c7f9f929"}
+c1 200 {"_id":"a","_rev":"1-16dd5aa7b10d32bc038d45f5c7f9f929","v":1}
+"""
+
+
+def compare_failure(what: str, options: argparse.Namespace, printed: bytes, **streams: Any) -> None:
+    """Plays a script on streams that fail, and compares what was printed before, and how the program ends."""
+    words = [*shlex.split(options.program), "lab", "--secret", SECRET, ADMIN]
+    ran = subprocess.run(words, stderr=subprocess.PIPE, timeout=options.wait + 60, **streams)
+    said = [line for line in ran.stderr.decode().splitlines() if "unproved" not in line]
+    compare(what, (1, printed, ["couchd: file"]), (ran.returncode, ran.stdout or b"", said))
+
+
+def check_failing_reads(options: argparse.Namespace) -> None:
+    """Where reading the script fails, at once or behind some lines, what these print is printed, and the program says `file`."""
+    folder = os.open("/", os.O_RDONLY)
+    compare_failure("a script that is a folder", options, b"", stdin=folder, stdout=subprocess.PIPE)
+    os.close(folder)
+    with socket.create_server(("127.0.0.1", 0)) as listener, socket.create_connection(listener.getsockname()) as reading:
+        made, _ = listener.accept()
+        made.sendall(FIRST.encode())
+        # A reset that comes before the script is read would take the script away with it.
+        threading.Timer(options.wait / 30, resets, [made]).start()
+        compare_failure("a script whose reading fails behind its lines", options, PRINTED.encode(), stdin=reading, stdout=subprocess.PIPE)
+
+
+def check_endless(options: argparse.Namespace) -> None:
+    """A script without an end is given up, and the program says `file`."""
+    with subprocess.Popen(["sh", "-c", "printf 'node A\\nconn A c\\n'; exec yes 'send c '"], stdout=subprocess.PIPE, stderr=subprocess.DEVNULL) as endless:
+        compare_failure("a script without an end", options, b"", stdin=endless.stdout, stdout=subprocess.PIPE)
+        endless.kill()
+
+
+def check_failing_writes(options: argparse.Namespace) -> None:
+    """Where printing fails, at once or behind some bytes, the program ends and says `file`."""
+    with open("/dev/full", "wb") as full:
+        compare_failure("a full device", options, b"", input=FIRST.encode(), stdout=full)
+    reading, writing = os.pipe()
+    os.close(reading)
+    compare_failure("a closed pipe", options, b"", input=FIRST.encode(), stdout=writing)
+    os.close(writing)
+    with tempfile.TemporaryFile() as printed:
+        words = ["sh", "-c", "ulimit -f 0; exec \"$@\"", "sh", *shlex.split(options.program), "lab", "--secret", SECRET, ADMIN]
+        ran = subprocess.run(words, input=FIRST.encode(), stdout=printed, stderr=subprocess.PIPE, timeout=options.wait + 60, preexec_fn=lambda: signal.signal(signal.SIGXFSZ, signal.SIG_IGN))
+        compare("a file that may not grow", (1, ["couchd: file"]), (ran.returncode, [line for line in ran.stderr.decode().splitlines() if "unproved" not in line]))
+
+
 def check(options, folder):
-    """Plays two long runs."""
+    """Plays two long runs, and scripts on streams that fail."""
+    check_failing_reads(options)
+    check_endless(options)
+    check_failing_writes(options)
     check_run(options)

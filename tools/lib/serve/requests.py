@@ -1,5 +1,9 @@
 """Requests on connections that come one after another."""
+from __future__ import annotations
+
+import argparse
 import hashlib
+import socket
 import time
 
 from lib.checks import compare
@@ -38,6 +42,22 @@ def check_requests(options, file):
             pass
         compare("a body that is too large", reply(413, {"error": "too_large", "reason": "request"}, last=True), rest_of(made))
     server.ended("four connections")
+
+
+def check_shut(options: argparse.Namespace, file: str) -> None:
+    """A client that has sent all and shut its side before its connection is accepted has every reply."""
+    server = Server(options, file, 2)
+    body = {"v": 1}
+    revision = first_revision(body)
+    with connected(server.port) as first, connected(server.port) as waiting:
+        # The server serves the first connection, and hasn't seen the second.
+        asks("a database", first, request("PUT", "/db"), reply(201, {"ok": True}))
+        waiting.sendall(request("PUT", "/db/a", body) + request("GET", "/db/a") + b"GET /db")
+        waiting.shutdown(socket.SHUT_WR)
+        first.close()
+        wanted = reply(201, {"id": "a", "ok": True, "rev": revision}) + reply(200, {"_id": "a", "_rev": revision, **body})
+        compare("a client that shut its side before it was accepted", wanted, rest_of(waiting))
+    server.ended("a client that shut its side")
 
 
 def check_broken(options, file):
@@ -85,6 +105,7 @@ def check(options, folder):
     file = f"{folder}/a.db"
     check_requests(options, file)
     check_broken(options, file)
+    check_shut(options, f"{folder}/shut.db")
     if not options.in_memory:
         check_kept(options, file)
         check_many(options, file)

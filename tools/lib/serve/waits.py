@@ -1,11 +1,14 @@
 """Silent and slow clients, and how long the server waits for them."""
+from __future__ import annotations
+
+import argparse
 import concurrent.futures
 import contextlib
 import time
 
 from lib.checks import compare
 from lib.serve.connections import drip, start_all
-from lib.server import WELCOME, Server, asks, connected, request, rest_of
+from lib.server import WELCOME, Server, asks, connected, first_revision, reply, request, rest_of
 
 
 def check_silent(options, file):
@@ -37,8 +40,27 @@ def check_idle(options, file):
     server.ended("silent and slow clients")
 
 
+def check_takes_nothing(options: argparse.Namespace, file: str) -> None:
+    """A client that takes no replies is left, and the next one is served: forty replies of a million bytes are more than sockets keep.
+
+    Each write waits for 30 seconds. The system's buffers grow while they fill, so the first two may end by taking some bytes.
+    """
+    server = Server(options, file, 3)
+    with connected(server.port) as made:
+        asks("a database", made, request("PUT", "/db"), reply(201, {"ok": True}))
+        body = {"v": "x" * 1_000_000}
+        asks("a large document", made, request("PUT", "/db/a", body), reply(201, {"id": "a", "ok": True, "rev": first_revision(body)}))
+    with connected(server.port) as taker, connected(server.port) as waiting:
+        waiting.settimeout(150)
+        taker.sendall(request("GET", "/db/a") * 40)
+        begun = time.monotonic()
+        asks("behind a client that takes nothing", waiting, request("GET", "/", user=None), WELCOME)
+        compare("behind a client that takes nothing: whether it waited for 29 to 120 seconds", True, 29 <= time.monotonic() - begun <= 120)
+    server.ended("a client that takes nothing")
+
+
 # They mostly wait, each with a file of its own.
-CHECKS = [(check_silent, "silent.db"), (check_idle, "idle.db")]
+CHECKS = [(check_silent, "silent.db"), (check_idle, "idle.db"), (check_takes_nothing, "nothing.db")]
 
 
 def check(options, folder):
