@@ -1,3 +1,4 @@
 pub mod Plan
 pub mod Faults
 pub mod Statuses
+pub mod Words

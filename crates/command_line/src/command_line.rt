@@ -5,14 +5,16 @@ ghost use Rattle.std.specs.Prelude.{unwrap_or};
 ghost use Rattle.std.specs.Char.{is_ascii_digit};
 ghost use Rattle.std.specs.List.{list_all};
 ghost use Rattle.clap.specs.declared.builder.command.Command.TheViews.{out-Command as fields_of};
-ghost use Rattle.clap.specs.Words.{all_of, app_of, fault_of, first_of, found_of, kind_of, rows_of, rule_of, shape_of, subcommand_of, subcommand_rows_of};
-ghost use Rattle.command_line.specs.Plan.{admin_rule, answering_commands, asked_at, asked_by, command_of, bare_command, command_named, couchd_command};
-ghost use Rattle.command_line.specs.Plan.{are_apart, can_be_made, check_asked_by, check_command, flag, is_file, is_given, is_header_byte, is_numeral};
-ghost use Rattle.command_line.specs.Plan.{lab_asked_by, lab_command, number_between, number_or, optional_option, port_in, required_option, serve_asked_by};
-ghost use Rattle.command_line.specs.Plan.{serve_command, serve_options, side_in, side_of, user_in};
-ghost use Rattle.command_line.specs.Plan.{sync_asked_by, sync_command, sync_of, sync_options, sync_sides};
+ghost use Rattle.clap.specs.Words.{all_of, app_of, fault_of, first_of, found_of, kind_of, rows_of, rule_of, subcommand_of, subcommand_rows_of, with_subcommand};
+ghost use Rattle.command_line.specs.Plan.{asked_at, asked_by, command_of, bare_command, command_named, couchd_command};
+ghost use Rattle.command_line.specs.Plan.{are_apart, can_be_made, check_asked_by, check_command, is_file, is_given, is_header_byte, is_numeral};
+ghost use Rattle.command_line.specs.Plan.{lab_asked_by, lab_command, number_between, number_or, optional_option, port_in, serve_asked_by};
+ghost use Rattle.command_line.specs.Plan.{serve_command, side_in, side_of, user_in};
+ghost use Rattle.command_line.specs.Plan.{sync_asked_by, sync_command, sync_of};
+ghost use Rattle.command_line.specs.Words.{rule_of_word, with_words};
 
 use crate::plans::{Plan, PlanFault, SyncPlan, SyncSide};
+use crate::word::Word;
 use clap::error::ErrorKind;
 use clap::{Arg, ArgAction, ArgMatches, Command, Error};
 use std::alloc::{AllocError, Global};
@@ -65,18 +67,11 @@ fn parse<'a>(alloc: Global, words: &'a [String]) -> Result<ArgMatches<'a>, Error
 fn couchd_command<'a>(alloc: Global) -> Result<Command<'a>, AllocError>
     ensures { IfOk result (λ command. app_of command ≡ couchd_command) }
 {
-    let couchd = answering_commands(alloc)?;
-    couchd.subcommand(check_command(alloc)?)
-}
-
-/// Returns the command `couchd` with the commands that answer requests: `lab`, `serve` and `sync`.
-fn answering_commands<'a>(alloc: Global) -> Result<Command<'a>, AllocError>
-    ensures { IfOk result (λ command. app_of command ≡ answering_commands) }
-{
     let couchd = bare_command(alloc);
-    let couchd = couchd.subcommand(lab_command(alloc)?)?;
-    let couchd = couchd.subcommand(serve_command(alloc)?)?;
-    couchd.subcommand(sync_command(alloc)?)
+    let couchd = add_lab(alloc, couchd)?;
+    let couchd = add_serve(alloc, couchd)?;
+    let couchd = add_sync(alloc, couchd)?;
+    add_check(alloc, couchd)
 }
 
 /// Returns the command `couchd` as it is before its commands are added.
@@ -89,130 +84,113 @@ fn bare_command<'a>(alloc: Global) -> Command<'a>
         .subcommand_required(true)
 }
 
-/// Returns the command `lab --secret S [ADMIN]...`.
-fn lab_command<'a>(alloc: Global) -> Result<Command<'a>, AllocError>
-    ensures shape { IfOk result (λ command. shape_of command ≡ lab_command) }
-    ensures local { IfOk result (λ command. (fields_of command).has_globals ≡ false) }
+/// Adds the command `lab --secret S [ADMIN]...`.
+fn add_lab<'a>(alloc: Global, couchd: Command<'a>) -> Result<Command<'a>, AllocError>
+    ensures { IfOk result (λ added. app_of added ≡ with_subcommand (app_of couchd.entry) lab_command) }
 {
-    plain_command(alloc, "lab")
-        .arg(required_option(alloc, "secret"))?
-        .arg(admin_words(alloc))
+    add_command(
+        alloc,
+        couchd,
+        "lab",
+        &[Word::Required("secret"), Word::Admins],
+    )
 }
 
-/// Returns the command `serve --secret S --file F --port P --conns N [--at-once K] [--cache MB]
+/// Adds the command `serve --secret S --file F --port P --conns N [--at-once K] [--cache MB]
 /// [ADMIN]...`.
-fn serve_command<'a>(alloc: Global) -> Result<Command<'a>, AllocError>
-    ensures shape { IfOk result (λ command. shape_of command ≡ serve_command) }
-    ensures local { IfOk result (λ command. (fields_of command).has_globals ≡ false) }
+fn add_serve<'a>(alloc: Global, couchd: Command<'a>) -> Result<Command<'a>, AllocError>
+    ensures { IfOk result (λ added. app_of added ≡ with_subcommand (app_of couchd.entry) serve_command) }
 {
-    serve_options(alloc)?
-        .arg(optional_option(alloc, "at-once"))?
-        .arg(optional_option(alloc, "cache"))?
-        .arg(admin_words(alloc))
+    let words = [
+        Word::Required("secret"),
+        Word::Required("file"),
+        Word::Required("port"),
+        Word::Required("conns"),
+        Word::Optional("at-once"),
+        Word::Optional("cache"),
+        Word::Admins,
+    ];
+    add_command(alloc, couchd, "serve", &words)
 }
 
-/// Returns the command `serve` with the options that have to be given.
-fn serve_options<'a>(alloc: Global) -> Result<Command<'a>, AllocError>
-    ensures app { IfOk result (λ command. app_of command ≡ serve_options) }
-    ensures local { IfOk result (λ command. (fields_of command).has_globals ≡ false) }
-{
-    plain_command(alloc, "serve")
-        .arg(required_option(alloc, "secret"))?
-        .arg(required_option(alloc, "file"))?
-        .arg(required_option(alloc, "port"))?
-        .arg(required_option(alloc, "conns"))
-}
-
-/// Returns the command `sync --secret S --session T [--from F | --from-address B] --db D [--to G |
+/// Adds the command `sync --secret S --session T [--from F | --from-address B] --db D [--to G |
 /// --address A] --target-db E [--user U] [--create] [--cache MB] [ADMIN]...`. It also takes words with both
 /// places of a side, or with neither, which `choose_side` refuses.
-fn sync_command<'a>(alloc: Global) -> Result<Command<'a>, AllocError>
-    ensures shape { IfOk result (λ command. shape_of command ≡ sync_command) }
-    ensures local { IfOk result (λ command. (fields_of command).has_globals ≡ false) }
+fn add_sync<'a>(alloc: Global, couchd: Command<'a>) -> Result<Command<'a>, AllocError>
+    ensures { IfOk result (λ added. app_of added ≡ with_subcommand (app_of couchd.entry) sync_command) }
 {
-    sync_sides(alloc)?
-        .arg(optional_option(alloc, "user"))?
-        .arg(flag(alloc, "create"))?
-        .arg(optional_option(alloc, "cache"))?
-        .arg(admin_words(alloc))
+    let words = [
+        Word::Required("secret"),
+        Word::Required("session"),
+        Word::Required("db"),
+        Word::Required("target-db"),
+        Word::Optional("from"),
+        Word::Optional("from-address"),
+        Word::Optional("to"),
+        Word::Optional("address"),
+        Word::Optional("user"),
+        Word::Flag("create"),
+        Word::Optional("cache"),
+        Word::Admins,
+    ];
+    add_command(alloc, couchd, "sync", &words)
 }
 
-/// Returns the command `sync` with the options that have to be given, and those for the places of its
-/// sides.
-fn sync_sides<'a>(alloc: Global) -> Result<Command<'a>, AllocError>
-    ensures app { IfOk result (λ command. app_of command ≡ sync_sides) }
-    ensures local { IfOk result (λ command. (fields_of command).has_globals ≡ false) }
+/// Adds the command `check --file F [--cache MB]`.
+fn add_check<'a>(alloc: Global, couchd: Command<'a>) -> Result<Command<'a>, AllocError>
+    ensures { IfOk result (λ added. app_of added ≡ with_subcommand (app_of couchd.entry) check_command) }
 {
-    sync_options(alloc)?
-        .arg(optional_option(alloc, "from"))?
-        .arg(optional_option(alloc, "from-address"))?
-        .arg(optional_option(alloc, "to"))?
-        .arg(optional_option(alloc, "address"))
+    let words = [Word::Required("file"), Word::Optional("cache")];
+    add_command(alloc, couchd, "check", &words)
 }
 
-/// Returns the command `sync` with the options that have to be given.
-fn sync_options<'a>(alloc: Global) -> Result<Command<'a>, AllocError>
-    ensures app { IfOk result (λ command. app_of command ≡ sync_options) }
-    ensures local { IfOk result (λ command. (fields_of command).has_globals ≡ false) }
+/// Adds a command of this name with these words, and without help.
+fn add_command<'a>(
+    alloc: Global,
+    couchd: Command<'a>,
+    name: &'a str,
+    words: &[Word<'a>],
+) -> Result<Command<'a>, AllocError>
+    ensures { IfOk result (λ added. app_of added ≡ with_subcommand (app_of couchd.entry) (with_words words.now (command_named name.now)).top) }
 {
-    plain_command(alloc, "sync")
-        .arg(required_option(alloc, "secret"))?
-        .arg(required_option(alloc, "session"))?
-        .arg(required_option(alloc, "db"))?
-        .arg(required_option(alloc, "target-db"))
+    couchd.subcommand(command_with(alloc, name, words)?)
 }
 
-/// Returns the command `check --file F [--cache MB]`.
-fn check_command<'a>(alloc: Global) -> Result<Command<'a>, AllocError>
-    ensures shape { IfOk result (λ command. shape_of command ≡ check_command) }
+/// Returns a command of this name with these words, and without help.
+fn command_with<'a>(
+    alloc: Global,
+    name: &'a str,
+    words: &[Word<'a>],
+) -> Result<Command<'a>, AllocError>
+    ensures app { IfOk result (λ command. app_of command ≡ with_words words.now (command_named name.now)) }
     ensures local { IfOk result (λ command. (fields_of command).has_globals ≡ false) }
 {
-    plain_command(alloc, "check")
-        .arg(required_option(alloc, "file"))?
-        .arg(optional_option(alloc, "cache"))
+    let mut command = Command::new(alloc, name).disable_help_flag(true);
+    for word in words {
+        command = command.arg(argument(alloc, *word))?;
+    }
+    Ok(command)
 }
 
-/// Returns a command of this name without words, and without help.
-fn plain_command<'a>(alloc: Global, name: &'a str) -> Command<'a>
-    ensures app { app_of result ≡ command_named name.now }
-    ensures local { (fields_of result).has_globals ≡ false }
+/// Returns the argument that a word is.
+fn argument<'a>(alloc: Global, word: Word<'a>) -> Arg<'a>
+    ensures rule { rule_of result ≡ rule_of_word word.entry }
+    ensures local { result.global ≡ false }
 {
-    Command::new(alloc, name).disable_help_flag(true)
+    match word {
+        Word::Required(name) => option(alloc, name).required(true),
+        Word::Optional(name) => option(alloc, name),
+        Word::Flag(name) => Arg::new(alloc, name).long(name).action(ArgAction::SetTrue),
+        Word::Admins => Arg::new(alloc, "admin").action(ArgAction::Append),
+    }
 }
 
 /// Returns the argument `--NAME VALUE`, which may be given.
-fn optional_option<'a>(alloc: Global, name: &'a str) -> Arg<'a>
+fn option<'a>(alloc: Global, name: &'a str) -> Arg<'a>
     ensures rule { rule_of result ≡ optional_option name.now }
     ensures local { result.global ≡ false }
 {
     Arg::new(alloc, name).long(name).action(ArgAction::Set)
-}
-
-/// Returns the argument `--NAME VALUE`, which has to be given.
-fn required_option<'a>(alloc: Global, name: &'a str) -> Arg<'a>
-    ensures rule { rule_of result ≡ required_option name.now }
-    ensures local { result.global ≡ false }
-{
-    Arg::new(alloc, name)
-        .long(name)
-        .required(true)
-        .action(ArgAction::Set)
-}
-
-/// Returns the argument `--NAME`, which may be given, and has no value.
-fn flag<'a>(alloc: Global, name: &'a str) -> Arg<'a>
-    ensures rule { rule_of result ≡ flag name.now }
-    ensures local { result.global ≡ false }
-{
-    Arg::new(alloc, name).long(name).action(ArgAction::SetTrue)
-}
-
-/// Returns the argument `[ADMIN]...`.
-fn admin_words<'a>(alloc: Global) -> Arg<'a>
-    ensures rule { rule_of result ≡ admin_rule }
-    ensures local { result.global ≡ false }
-{
-    Arg::new(alloc, "admin").action(ArgAction::Append)
 }
 
 /// Returns the plan of the command of this name, with what clap made of its words.

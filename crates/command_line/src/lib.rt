@@ -5,6 +5,7 @@ mod command_fault;
 mod command_line;
 mod fault;
 mod plans;
+mod word;
 mod words;
 
 pub use command_fault::CommandFault;
