@@ -65,7 +65,9 @@ class Crates:
 
     def files(self, name: str) -> list[str]:
         """Returns the files and folders that a crate is proved from."""
-        return sorted(it for part in PARTS for it in glob.glob(f"{self.top}/crates/{name}/{part}/**", recursive=True))
+        paths = (it for part in PARTS for it in glob.glob(f"{self.top}/crates/{name}/{part}/**", recursive=True))
+        # A folder that isn't there is given as a path, too.
+        return sorted(filter(os.path.exists, paths))
 
     def size(self, name: str) -> int:
         """Returns how many bytes a crate and those below it have: about what a check of it costs."""
