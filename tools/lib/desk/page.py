@@ -1,0 +1,65 @@
+"""A browser that has the desk open."""
+import json
+from typing import Any
+
+from lib.desk.place import Place
+from lib.server import ADMIN
+from lib.webdriver import Browser, Element, Failed
+
+TAB, ENTER, SPACE = "\ue004", "\ue007", " "
+
+
+class Desk(Browser):
+    """A browser that has the desk open."""
+
+    def __init__(self, place: Place, user: str = ADMIN) -> None:
+        super().__init__()
+        self.place, self.times = place, list[str]()
+        try:
+            self.open(place.address(user))
+            self.find("h2")
+        except BaseException:
+            self.end()
+            raise
+
+    def go(self, *words: str, text: str = "", css: str = "h2") -> Element:
+        """Opens a view, and returns its heading, or another element that has to come."""
+        go = "document.querySelector('#view').replaceChildren(); const next = '#/' + args.map(encodeURIComponent).join('/');"
+        self.run(go + " if (next === location.hash) dispatchEvent(new HashChangeEvent('hashchange')); else location.hash = next;", *words)
+        return self.find(css, text)
+
+    def press_button(self, text: str) -> None:
+        self.find("button", text).click()
+
+    def told(self) -> str:
+        return self.find("#told").text()
+
+    def retype(self, css: str, text: str) -> None:
+        """Replaces what is typed in a field."""
+        field = self.find(css)
+        field.clear()
+        field.type(text)
+
+    def body(self) -> Any:
+        return json.loads(self.find("pre.body").text())
+
+    def links(self, css: str) -> list[str]:
+        return [link.text() for link in self.all(css)]
+
+    def processor_time(self) -> float:
+        """Returns how many seconds of a processor the page has taken."""
+        self.emulate("Performance.enable")
+        return next(one["value"] for one in self.emulate("Performance.getMetrics")["metrics"] if one["name"] == "ProcessTime")
+
+    def tab_to(self, text: str) -> None:
+        """Presses the key that goes on, until the element with this text has the focus."""
+        for _ in range(80):
+            self.press(TAB)
+            if self.run("return document.activeElement.textContent.trim() === args[0] || document.activeElement.getAttribute('aria-label') === args[0]", text):
+                return
+        raise Failed(f"no key leads to {text}")
+
+
+def breaches(desk: Desk) -> list[str]:
+    """Returns what the console says that is no reply of the server's."""
+    return [line for line in desk.log() if "Failed to load resource" not in line]
