@@ -1,7 +1,8 @@
 // Who may do what, as the server says it, and local documents.
-import {ask, askDesigns, askUnless, bodyOf, bodyTyped, isAbsent, pathTo, put} from "./client.js";
+import {Stopped, ask, askDesigns, askUnless, bodyOf, bodyTyped, isAbsent, pathTo, put} from "./client.js";
 import {shown} from "./json.js";
-import {actions, button, code, el, failure, field, form, heading, link, named, row, shortRev, table, typing} from "./elements.js";
+import {actions, code, el, field, heading, link, named, row, shortRev, table, typing} from "./elements.js";
+import {button, failure, form, markSaved} from "./page.js";
 
 /**
  * Requests that change nothing, because each is refused in any case: a denial is reported before the fault of the request,
@@ -15,23 +16,25 @@ const QUESTIONS = {
 };
 
 /** Asks whether the caller may do something, and returns a row with the server's reply. */
-async function mayI(what, db) {
+async function mayI(what, db, page) {
   const [method, path, fault, body] = QUESTIONS[what](db);
-  const error = await ask(method, path, {body}).then(() => null, refused => refused);
+  const error = await ask(method, path, {...page, body, isWrite: false}).then(() => null, refused => refused);
+  if (error instanceof Stopped) throw error;
   return row(what, !error || error.status === fault ? "yes" : el("div", {}, "no", ...failure(error)));
 }
 
 /** Saves a document again as it is: no other request is judged by update rules. */
-async function writeAgain(db, id, answer) {
-  const now = await ask("GET", pathTo(db, id));
+async function writeAgain(page, db, id, answer) {
+  const now = await ask("GET", pathTo(db, id), page);
   const yes = rev => [el("p", {}, `yes: saved as ${shortRev(rev)}, with the body of ${shortRev(now._rev)}.`)];
-  answer.replaceChildren(...(await put(db, id, now._rev, bodyOf(now)).then(yes, error => [el("p", {}, "no"), ...failure(error)])));
+  const no = error => (error instanceof Stopped ? Promise.reject(error) : [el("p", {}, "no"), ...failure(error)]);
+  answer.replaceChildren(...(await put(db, id, now._rev, bodyOf(now), page).then(yes, no)));
 }
 
 /** Returns the form that tests one document. */
 function askingOfOne(db) {
   const answer = el("div", {class: "answer", role: "status"}), id = field("Document", {required: ""});
-  const asking = form("Test by saving it again, unchanged", [id], text => writeAgain(db, text, answer), "fields may");
+  const asking = form("Test by saving it again, unchanged", [id], (page, text) => writeAgain(page, db, text, answer), "fields may");
   const why = "Only a write shows what the update rules allow. A refused write changes nothing; an accepted one adds a revision with the same body.";
   return [el("h3", {}, "May you write this document?"), el("p", {}, why), asking, answer];
 }
@@ -42,9 +45,10 @@ const ruleOf = (db, {_id, validate_doc_update: rule}) => [el("p", {}, link(_id, 
 export async function access(page, db) {
   const security = await ask("GET", `${pathTo(db)}/_security`, page), area = typing("security object", shown(security));
   const rules = (await askDesigns(db, page)).filter(one => one.validate_doc_update !== undefined);
-  const mine = await Promise.all(Object.keys(QUESTIONS).map(what => mayI(what, db)));
-  const save = button("Save the security object", async () => {
-    await ask("PUT", `${pathTo(db)}/_security`, {body: bodyTyped(area.value)});
+  const mine = await Promise.all(Object.keys(QUESTIONS).map(what => mayI(what, db, page)));
+  const save = button("Save the security object", async page => {
+    await ask("PUT", `${pathTo(db)}/_security`, {...page, body: bodyTyped(area.value)});
+    markSaved(area);
     page.again();
   });
   page.show(heading("Access"), table("may", ["you may", "reply of the server"], mine), ...askingOfOne(db),
@@ -54,11 +58,12 @@ export async function access(page, db) {
 
 /** Shows a local document, given its name. */
 export async function local(page, db, name) {
-  const open = form("Open", [field("Name, behind _local/", {value: name ?? "", required: ""})], other => page.go(db, "local", other));
+  const open = form("Open", [field("Name, behind _local/", {value: name ?? "", required: ""})], (page, other) => page.go(db, "local", other));
   if (name === undefined) return page.show(heading("Local documents"), el("p", {}, "Local documents are not listed: enter a name."), open);
   const now = await askUnless(isAbsent, pathTo(db, `_local/${name}`), page), area = typing("body", shown(now ? bodyOf(now) : {}));
-  const save = button("Save", async () => {
-    await put(db, `_local/${name}`, now?._rev, bodyTyped(area.value));
+  const save = button("Save", async page => {
+    await put(db, `_local/${name}`, now?._rev, bodyTyped(area.value), page);
+    markSaved(area);
     page.again();
   });
   page.show(heading("_local/", named(name)), el("p", {}, now ? now._rev : "never written"), open, area, actions(save));

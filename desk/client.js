@@ -20,6 +20,16 @@ export class TooLong extends Error {
   }
 }
 
+/** What ended a request before its reply: somebody stopped it, or left the view that it was for. */
+export class Stopped extends Error {
+  constructor(isWrite) {
+    super(isWrite ? "Stopped before the server replied: whether it made the change isn't known." : "Stopped.");
+  }
+}
+
+/** Stand for the changes that were sent and aren't answered yet. */
+export const unanswered = new Set();
+
 /** Returns the path of a database, of a document, or of another page. */
 export function pathTo(...parts) {
   // Browsers remove these two from any path, even escaped.
@@ -51,13 +61,26 @@ function valueOf(text) {
   }
 }
 
-/** Sends a request and returns the value of its reply; throws Refused, TooLong, or what `fetch` throws. */
-export async function ask(method, path, {body, signal, limit = LIMIT} = {}) {
-  const sent = body === undefined ? undefined : write(body);
-  // `fetch` refuses a relative address where the page was opened with a password in its own.
-  const reply = await fetch(location.origin + path, {method, body: sent, signal, cache: "no-store", redirect: "error"});
-  const value = valueOf(await textOf(reply, limit));
-  if (!reply.ok || (isObject(value) && value.error === "no reply of couchd")) throw new Refused(reply.status, value);
+/** Sends a request and returns the text of its reply, with its status; throws TooLong, Stopped, or what `fetch` throws. */
+async function send(path, {limit, isWrite, ...sent}) {
+  const mark = {};
+  if (isWrite) unanswered.add(mark);
+  try {
+    // `fetch` refuses a relative address where the page was opened with a password in its own.
+    const reply = await fetch(location.origin + path, {...sent, cache: "no-store", redirect: "error"});
+    return [reply.ok, reply.status, await textOf(reply, limit)];
+  } catch (error) {
+    throw sent.signal?.aborted ? new Stopped(isWrite) : error;
+  } finally {
+    unanswered.delete(mark);
+  }
+}
+
+/** Sends a request and returns the value of its reply; throws Refused, and what `send` throws. */
+export async function ask(method, path, {body, signal, limit = LIMIT, isWrite = body !== undefined} = {}) {
+  const sent = {method, body: body === undefined ? undefined : write(body), signal};
+  const [isFine, status, text] = await send(path, {...sent, limit, isWrite}), value = valueOf(text);
+  if (!isFine || (isObject(value) && value.error === "no reply of couchd")) throw new Refused(status, value);
   return value;
 }
 
@@ -110,7 +133,7 @@ export function bodyTyped(text) {
 }
 
 /** Writes a revision after another one, or a first one, and returns its name. */
-export async function put(db, id, rev, body, deleted = false) {
-  const special = {...(rev && {_rev: rev}), ...(deleted && {_deleted: true})};
-  return (await ask("PUT", pathTo(db, id), {body: {...body, ...special}})).rev;
+export async function put(db, id, rev, body, {signal, isDeleted = false}) {
+  const special = {...(rev && {_rev: rev}), ...(isDeleted && {_deleted: true})};
+  return (await ask("PUT", pathTo(db, id), {body: {...body, ...special}, signal})).rev;
 }

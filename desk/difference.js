@@ -44,6 +44,20 @@ export const ABSENT = Symbol("absent"), UNKNOWN = Symbol("unknown");
 
 const member = (value, name) => (value === UNKNOWN ? UNKNOWN : isObject(value) && Object.hasOwn(value, name) ? value[name] : ABSENT);
 
+/** Returns the value at a path of members, or ABSENT. */
+export const valueAt = (body, path) => path.reduce(member, body);
+
+/** Returns a body whose value at a path is another one, or isn't there where that is ABSENT. */
+export function withValue(body, [name, ...path], value) {
+  const before = member(body, name), inner = path.length ? withValue(isObject(before) ? before : {}, path, value) : value;
+  const others = Object.entries(body).filter(([other]) => other !== name);
+  return Object.fromEntries(inner === ABSENT ? others : [...others, [name, inner]].sort(([one], [other]) => (one < other ? -1 : 1)));
+}
+
+/** Returns the names of the members in which two objects differ. */
+export const differing = (one, other) =>
+  [...new Set([...Object.keys(one), ...Object.keys(other)])].sort().filter(name => !same(member(one, name), member(other, name)));
+
 /** Returns the values without repeats. */
 const distinct = values => values.filter((value, place) => values.findIndex(other => same(other, value)) === place);
 

@@ -2,7 +2,8 @@
 import {Refused, TooLong, askHeld, askLeaves, askUnless, bodyOf, bodyTyped, isAbsent, orTooLong, pathTo, put, query} from "./client.js";
 import {shown} from "./json.js";
 import {kindsOf, pathOf, rowsOf} from "./tree.js";
-import {actions, button, code, compared, el, field, form, heading, link, megabytes, named, placeOf, shortRev, svg, tell, typing} from "./elements.js";
+import {actions, code, compared, el, field, heading, link, megabytes, named, placeOf, shortRev, svg, typing} from "./elements.js";
+import {button, form, markSaved, pressed} from "./page.js";
 
 const SHAPES = {
   winner: (x, y) => svg("circle", {cx: x, cy: y, r: 8}),
@@ -49,19 +50,18 @@ function drawn(rows, held, chosen, target) {
 /** Returns the element of the tree, which is redrawn when a run is unfolded. */
 async function treeOf(page, db, id, leaves, chosen) {
   const place = el("div", {class: "wide", tabindex: "0", role: "region", "aria-label": "tree"}), unfolded = new Set();
-  const unfold = rev => async event => {
-    event.preventDefault();
+  const unfold = rev => pressed(async page => {
     unfolded.add(rev);
-    await draw();
+    await draw(page);
     place.focus();
-  };
+  });
   const target = ({kind, rev}) => (kind === "run" ? {href: location.hash, click: unfold(rev)} : {href: placeOf(db, "document", id, rev)});
-  const draw = async () => {
+  const draw = async page => {
     const rows = rowsOf(leaves, unfolded), inner = rows.filter(row => row.kind === "inner").map(row => row.rev);
-    const held = inner.length ? await askHeld(db, id, inner, {signal: page.signal}) : new Map();
+    const held = inner.length ? await askHeld(db, id, inner, page) : new Map();
     place.replaceChildren(drawn(rows, held, chosen, target));
   };
-  await draw();
+  await draw(page);
   return place;
 }
 
@@ -69,13 +69,13 @@ async function treeOf(page, db, id, leaves, chosen) {
 async function treeOrOffer(page, db, id, chosen) {
   const leaves = await orTooLong(askLeaves(db, id, true, page));
   if (!(leaves instanceof TooLong)) return treeOf(page, db, id, leaves, chosen);
-  const fetched = async made => made.parentElement.replaceWith(await treeOrOffer({...page, limit: Infinity}, db, id, chosen));
+  const fetched = async (page, made) => made.parentElement.replaceWith(await treeOrOffer({...page, limit: Infinity}, db, id, chosen));
   return el("p", {}, `The paths of the tree are ${megabytes(leaves.bytes)} long. `, button("Fetch and draw it", fetched));
 }
 
 /** Returns the elements for editing and deleting a leaf. */
-function writing(page, db, id, leaf) {
-  const deleted = async () => page.go(db, "document", id, await put(db, id, leaf._rev, bodyOf(leaf), true));
+function writing(db, id, leaf) {
+  const deleted = async page => page.go(db, "document", id, await put(db, id, leaf._rev, bodyOf(leaf), {...page, isDeleted: true}));
   const remove = button(`Delete ${shortRev(leaf._rev)}`, deleted);
   const removing = el("details", {}, el("summary", {}, "Delete"), el("p", {}, "Its body can still be read by its revision."), remove);
   const change = el("a", {href: placeOf(db, "edit", id, leaf._rev)}, leaf._deleted ? "Write it again" : "Edit");
@@ -88,7 +88,7 @@ async function revisionOf(page, db, id, leaves, rev) {
   const found = leaf ?? (await askUnless(isAbsent, pathTo(db, id) + query({rev}), page));
   const kind = leaf ? kindsOf(leaves)[place] : found ? "held" : "not held";
   const body = found ? code(bodyOf(found)) : el("p", {}, "No body of this revision is held here.");
-  return [el("h3", {}, `${rev} `, el("span", {class: `word ${kind}`}, kind)), body, ...(leaf ? writing(page, db, id, leaf) : [])];
+  return [el("h3", {}, `${rev} `, el("span", {class: `word ${kind}`}, kind)), body, ...(leaf ? writing(db, id, leaf) : [])];
 }
 
 /** Shows a document: its tree, and one of its revisions. */
@@ -96,38 +96,39 @@ export async function one(page, db, id, asked) {
   const leaves = await askLeaves(db, id, false, page), live = leaves.filter(leaf => !leaf._deleted).length;
   if (!leaves.length) throw new Refused(404, {error: "not_found", reason: "missing"});
   const note = el("p", {class: "note"}, `${live} conflicting versions. `, link("Settle them", db, "settle", id));
-  const other = form("Show", [field("Another revision", {placeholder: "N-hash", required: ""})], rev => page.go(db, "document", id, rev));
+  const other = form("Show", [field("Another revision", {placeholder: "N-hash", required: ""})], (page, rev) => page.go(db, "document", id, rev));
   const rev = asked ?? leaves[0]._rev, tree = await treeOrOffer(page, db, id, rev);
   page.show(heading(named(id)), live > 1 ? note : "", tree, other, ...(await revisionOf(page, db, id, leaves, rev)));
 }
 
 /** Returns the leaf that descends from a revision, or the winner, as where the paths are too long. */
-async function leafAfter(db, id, rev, signal) {
-  const paths = await orTooLong(askLeaves(db, id, true, {signal}));
-  if (paths instanceof TooLong) return (await askLeaves(db, id, false, {signal}))[0];
+async function leafAfter(page, db, id, rev) {
+  const paths = await orTooLong(askLeaves(db, id, true, page));
+  if (paths instanceof TooLong) return (await askLeaves(db, id, false, page))[0];
   return paths.find(leaf => pathOf(leaf).includes(rev)) ?? paths[0];
 }
 
 /** Returns an editor of a body. What was typed is kept, whatever the reply; after a conflict the newer leaf is shown beside it. */
-function editor(page, db, idOf, leaf) {
+function editor(db, idOf, leaf, more = []) {
   const area = typing("body", leaf ? shown(bodyOf(leaf)) : "{\n}"), beside = el("div", {class: "beside"});
   let parent = leaf?._rev;
-  const overtaken = async () => {
-    const newer = await leafAfter(db, idOf(), parent, page.signal);
+  const overtaken = async page => {
+    const newer = await leafAfter(page, db, idOf(), parent);
     parent = newer?._rev;
     const title = newer && el("h3", {}, `${parent} was written meanwhile${newer._deleted ? " (deleted)" : ""}`);
     const why = el("p", {}, "Nothing was saved. What you typed, compared with it:");
     beside.replaceChildren(...(newer ? [title, why, compared(bodyOf(newer), area.value)] : []));
     save.textContent = newer ? `Save over ${shortRev(parent)}` : "Save";
   };
-  const save = button("Save", async () => {
+  const save = button("Save", async page => {
     try {
-      await put(db, idOf(), parent, bodyTyped(area.value));
+      await put(db, idOf(), parent, bodyTyped(area.value), page);
+      markSaved(area, ...more);
       page.go(db, "document", idOf());
     } catch (error) {
       if (error.status !== 409) throw error;
-      await overtaken();
-      tell(el("p", {}, "409 conflict: somebody else changed this document. What you typed is kept below."));
+      await overtaken(page);
+      page.tell(el("p", {}, "409 conflict: somebody else changed this document. What you typed is kept below."));
     }
   });
   return [area, actions(save), beside];
@@ -136,11 +137,11 @@ function editor(page, db, idOf, leaf) {
 /** Shows the editor of one leaf. */
 export async function edit(page, db, id, rev) {
   const leaves = await askLeaves(db, id, false, page), leaf = leaves.find(one => one._rev === rev) ?? leaves[0];
-  page.show(heading("Edit ", named(id)), el("p", {}, `a new revision after ${leaf?._rev}`), ...editor(page, db, () => id, leaf));
+  page.show(heading("Edit ", named(id)), el("p", {}, `a new revision after ${leaf?._rev}`), ...editor(db, () => id, leaf));
 }
 
 /** Shows the editor of a new document. */
 export async function write(page, db) {
-  const id = field("Id", {required: ""});
-  page.show(heading("New document"), id, ...editor(page, db, () => id.querySelector("input").value, null));
+  const label = field("Id", {required: "", class: "kept"}), input = label.querySelector("input");
+  page.show(heading("New document"), label, ...editor(db, () => input.value, null, [input]));
 }

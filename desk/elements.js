@@ -23,61 +23,20 @@ export const placeOf = (...words) => "#/" + words.map(encodeURIComponent).join("
 
 export const link = (text, ...words) => el("a", {href: placeOf(...words)}, named(text));
 export const shortRev = rev => rev.replace(/-(.{6}).+/, "-$1");
+export const revsOf = leaves => leaves.map(leaf => shortRev(leaf.rev ?? leaf._rev)).slice(0, 5).join(" ");
 export const code = (value, name = "body") => el("pre", {class: name}, shown(value));
 export const megabytes = bytes => `${(bytes / 1e6).toFixed(1)} MB`;
-
-/** Shows a message, which screen readers announce, or clears it. */
-export const tell = (...children) => document.getElementById("told").replaceChildren(...children);
 
 /** Returns the words of the address: a database, the view, and what it shows. */
 export const wordsHere = () => location.hash.replace(/^#\/?/, "").split("/").filter(Boolean).map(decodeURIComponent);
 
-/** Returns the elements that report a failure; a denial names its rule. */
-export function failure(error) {
-  if (!error.status) return [el("p", {}, error.message)];
-  const rule = error.rule?.startsWith("_design/") ? link(error.rule, wordsHere()[0], "document", error.rule) : error.rule;
-  const parts = [["status", `${error.status}`], ["error", error.error], ["reason", error.reason], ["rule", rule]];
-  return [el("dl", {}, ...parts.filter(([, said]) => said).flatMap(([name, said]) => [el("dt", {}, name), el("dd", {}, said)]))];
-}
-
-/** Does some work, and reports a failure. */
-async function tried(work) {
-  tell();
-  try {
-    await work();
-  } catch (error) {
-    tell(...failure(error));
-  }
-}
-
-/** Returns a button, disabled while it works. */
-export function button(text, work, attributes = {}) {
-  const pressed = async event => {
-    const made = event.currentTarget;
-    made.disabled = true;
-    await tried(() => work(made));
-    made.disabled = false;
-  };
-  return el("button", {type: "button", click: pressed, ...attributes}, text);
-}
-
 /** Returns a field with its label around it. */
 export const field = (label, attributes) => el("label", {}, `${label} `, el("input", {autocomplete: "off", spellcheck: "false", ...attributes}));
 
-/** Returns a form; its work is given the values of its fields. */
-export function form(text, fields, work, name = "fields") {
-  const sent = event => {
-    event.preventDefault();
-    const inputs = [...event.currentTarget.querySelectorAll("input")];
-    tried(() => work(...inputs.map(input => (input.type === "checkbox" ? input.checked : input.value))));
-  };
-  return el("form", {class: name, submit: sent}, ...fields, el("button", {}, text));
-}
-
-/** Returns an editor of a JSON text. */
-export function typing(label, text) {
+/** Returns an editor of a JSON text. What is typed counts as not saved where it differs from the saved text. */
+export function typing(label, text, saved = text) {
   const rows = Math.min(Math.max(text.split("\n").length + 1, 6), 24), area = el("textarea", {"aria-label": label, spellcheck: "false", rows});
-  area.value = text;
+  Object.assign(area, {defaultValue: saved, value: text});
   return area;
 }
 
