@@ -4,8 +4,8 @@ import {write} from "./json.js";
 import {el, heading, link, megabytes, revsOf, row, table} from "./elements.js";
 import {button, failure} from "./page.js";
 
-/** How many changes are requested at once, and how often new rows are drawn, in milliseconds. */
-const MOST = 500, PACE = 50;
+/** How many changes are requested at once, how many documents first, and how often new rows are drawn, in milliseconds. */
+const MOST = 500, FEW = 4, PACE = 50;
 
 // ---- what was found, until the page is loaded again
 
@@ -80,8 +80,11 @@ async function conflictOf(db, {id, changes}, options) {
 async function lookUp(page, db, list, report) {
   const look = async change => report(note(list, change, await conflictOf(db, change, page)));
   for await (const {results, since} of changeParts(db, list.since, page)) {
-    // All at once: browsers queue requests with less work than a script.
-    await Promise.all(results.map(look));
+    const isOne = ({changes}) => changes?.length === 1, many = results.filter(change => !isOne(change));
+    const begun = [...results.filter(isOne), ...many.slice(0, FEW)].map(look);
+    // A row stands before the many requests are made. They are made at once: browsers queue them with less work than a script.
+    if (many.length) await Promise.race(begun.slice(-FEW)).catch(() => {});
+    await Promise.all([...begun, ...many.slice(FEW).map(look)]);
     list.since = since;
     if (!list.isWhole) list.looked += results.length;
   }
@@ -94,19 +97,21 @@ async function lookUp(page, db, list, report) {
 function rowsOf(db, list, body) {
   const drawn = new Map(), waiting = new Set();
   const lineOf = ({id, count, text}) => row(link(id, db, "document", id), count, text, link("settle", db, "settle", id));
+  const behind = entry => {
+    let next = null;
+    for (let place = list.entries.length - 1; list.entries[place] !== entry; place--) next = drawn.get(list.entries[place]) ?? next;
+    return next;
+  };
   const drawOne = entry => {
     drawn.get(entry)?.remove();
     drawn.delete(entry);
-    if (entry.isSettled) return;
-    const line = lineOf(entry), next = list.entries.slice(list.entries.indexOf(entry) + 1).find(other => drawn.has(other));
-    body.insertBefore(line, next ? drawn.get(next) : null);
-    drawn.set(entry, line);
+    if (!entry.isSettled) drawn.set(entry, body.insertBefore(lineOf(entry), behind(entry)));
   };
   const draw = () => {
     waiting.forEach(drawOne);
     waiting.clear();
   };
-  openOnes(list.entries).forEach(drawOne);
+  for (const entry of openOnes(list.entries)) drawn.set(entry, body.appendChild(lineOf(entry)));
   return {drawn, add: entry => waiting.add(entry), draw};
 }
 

@@ -1,6 +1,6 @@
 // One document: its tree, the body of each revision, and its editor.
 import {Refused, TooLong, askHeld, askLeaves, askUnless, bodyOf, bodyTyped, isAbsent, orTooLong, pathTo, put, query} from "./client.js";
-import {shown} from "./json.js";
+import {typable} from "./json.js";
 import {kindsOf, pathOf, rowsOf} from "./tree.js";
 import {actions, code, compared, el, field, heading, link, megabytes, named, placeOf, shortRev, svg, typing} from "./elements.js";
 import {button, form, markSaved, pressed} from "./page.js";
@@ -110,14 +110,14 @@ async function leafAfter(page, db, id, rev) {
 
 /** Returns an editor of a body. What was typed is kept, whatever the reply; after a conflict the newer leaf is shown beside it. */
 function editor(db, idOf, leaf, more = []) {
-  const area = typing("body", leaf ? shown(bodyOf(leaf)) : "{\n}"), beside = el("div", {class: "beside"});
+  const area = typing("body", leaf ? typable(bodyOf(leaf)) : "{\n}"), beside = el("div", {class: "beside"});
   let parent = leaf?._rev;
   const overtaken = async page => {
     const newer = await leafAfter(page, db, idOf(), parent);
     parent = newer?._rev;
     const title = newer && el("h3", {}, `${parent} was written meanwhile${newer._deleted ? " (deleted)" : ""}`);
     const why = el("p", {}, "Nothing was saved. What you typed, compared with it:");
-    beside.replaceChildren(...(newer ? [title, why, compared(bodyOf(newer), area.value)] : []));
+    beside.replaceChildren(...(newer ? [title, why, compared(bodyOf(newer), bodyTyped(area.value))] : []));
     save.textContent = newer ? `Save over ${shortRev(parent)}` : "Save";
   };
   const save = button("Save", async page => {

@@ -1,7 +1,7 @@
 // Two versions member by member: each member in which they differ can be taken from either side.
 import {bodyTyped} from "./client.js";
 import {ABSENT, differing, valueAt, withValue} from "./difference.js";
-import {isObject, plain, read, same, shown, write} from "./json.js";
+import {isObject, plain, read, same, typable, write} from "./json.js";
 import {el, named} from "./elements.js";
 import {button} from "./page.js";
 
@@ -41,7 +41,7 @@ export function memberTable(sides, before, area) {
     takers.forEach(({path, value}, taker) => taker.setAttribute("aria-pressed", `${merged !== null && same(valueAt(merged, path), value)}`));
   };
   const take = (path, value) => {
-    area.value = shown(withValue(bodyTyped(area.value), path, value));
+    area.value = typable(withValue(bodyTyped(area.value), path, value));
     mark();
   };
   const taker = (path, {body, name}) => {

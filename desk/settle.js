@@ -1,19 +1,24 @@
 // Settling: what each version changed, one merged body, and then the others deleted.
 import {Refused, TooLong, askLeaves, askUnless, bodyOf, bodyTyped, isAbsent, orTooLong, pathTo, put, query} from "./client.js";
-import {same, shown} from "./json.js";
+import {same, typable} from "./json.js";
 import {commonAncestor, kindsOf} from "./tree.js";
 import {UNKNOWN, merge} from "./difference.js";
-import {actions, code, compared, el, heading, link, named, pages, shortRev, typing} from "./elements.js";
+import {actions, code, compared, el, heading, inParts, link, named, pages, shortRev, typing} from "./elements.js";
 import {markSettled, placeAmong} from "./conflicts.js";
 import {memberTable} from "./members.js";
 import {button, failure} from "./page.js";
 
 const living = leaves => leaves.filter(leaf => !leaf._deleted);
 
-/** Returns the common ancestor, or null where there is none, its body is not held, or the paths are too long. */
-async function ancestorOf(page, db, id) {
+/** Returns the leaves with their paths, or without them where these are too long. */
+async function askPaths(page, db, id) {
   const leaves = await orTooLong(askLeaves(db, id, true, page));
-  const rev = leaves instanceof TooLong ? null : commonAncestor(living(leaves));
+  return leaves instanceof TooLong ? askLeaves(db, id, false, page) : leaves;
+}
+
+/** Returns the common ancestor, or null where there is none, its body is not held, or no paths are there. */
+async function ancestorOf(page, db, id, live) {
+  const rev = live.every(leaf => leaf._revisions) ? commonAncestor(live) : null;
   return rev && askUnless(isAbsent, pathTo(db, id) + query({rev}), page);
 }
 
@@ -24,7 +29,7 @@ const APART = "The changes don't overlap: all are included.";
 /** Returns how the proposal was made, and the members to check. */
 const proposal = (base, touching) => [
   el("p", {class: "proposal"}, base ? (touching.length ? TOUCHING : APART) : UNHELD),
-  el("ul", {class: "touching"}, ...touching.map(path => el("li", {}, named(path.join("."))))),
+  inParts(el("ul", {class: "touching"}), touching, "members", path => el("li", {}, named(path.join(".")))),
 ];
 
 // ---- what a press of 'Settle' does
@@ -62,7 +67,7 @@ async function deleteLosers(page, db, id, kept, losers) {
 function goingOn(db, id) {
   const {next, of} = placeAmong(db, id), list = link("the list", db);
   if (!next) return actions(of ? "All that were found are settled: " : "Others are in ", list);
-  const text = ["Next: ", named(next.id), ` ${next.number} of ${of}`];
+  const text = ["Next: ", named(next.id), `, ${next.number} of ${of}`];
   return actions(button(text, page => page.go(db, "settle", next.id), {class: "main next", accesskey: "n"}), " or ", list);
 }
 
@@ -83,8 +88,8 @@ async function settled(page, db, id, parent, losers, body) {
 // ---- the versions
 
 /** Returns one version with what it changed to a body, if there is one, and a button to take it unchanged. */
-function side(leaf, kind, before, take) {
-  const body = bodyOf(leaf), name = shortRev(leaf._rev), title = el("h3", {}, `${name} `, el("span", {class: `word ${kind}`}, kind));
+function side(leaf, body, kind, before, take) {
+  const name = shortRev(leaf._rev), title = el("h3", {}, `${name} `, el("span", {class: `word ${kind}`}, kind));
   const what = before ? compared(before, body) : code(body);
   return el("section", {class: "side", "aria-label": `${leaf._rev} ${kind}`}, title, what, button(`Take ${name}`, () => take(leaf)));
 }
@@ -104,14 +109,15 @@ function choosing(names, pair, draw) {
 }
 
 /** Returns two of the versions, side by side and then member by member, marked against the ancestor or else the winner. */
-function comparing({live, kindOf, base}, area, take) {
-  const place = el("div"), pair = [0, 1], nameOf = leaf => `${shortRev(leaf._rev)} ${kindOf(leaf)}`, against = bodyOf(base ?? live[0]);
+function comparing({live, bodies, kindOf, base}, area, take) {
+  const place = el("div"), pair = [0, 1], nameOf = leaf => `${shortRev(leaf._rev)} ${kindOf(leaf)}`;
+  const against = base ? bodyOf(base) : bodies.get(live[0]);
   const marked = base ? `the common ancestor ${shortRev(base._rev)}` : `the winner ${shortRev(live[0]._rev)}`;
   let mark = () => {};
   const draw = () => {
     const two = pair.map(at => live[at]).filter(Boolean), beforeOf = leaf => (base || leaf !== live[0] ? against : null);
-    const sides = el("div", {class: "sides"}, ...two.map(leaf => side(leaf, kindOf(leaf), beforeOf(leaf), take)));
-    const members = two.length > 1 ? memberTable(two.map(leaf => ({body: bodyOf(leaf), name: nameOf(leaf)})), against, area) : null;
+    const sides = el("div", {class: "sides"}, ...two.map(leaf => side(leaf, bodies.get(leaf), kindOf(leaf), beforeOf(leaf), take)));
+    const members = two.length > 1 ? memberTable(two.map(leaf => ({body: bodies.get(leaf), name: nameOf(leaf)})), against, area) : null;
     mark = members?.mark ?? mark;
     const titles = [el("h3", {}, "Member by member"), el("p", {class: "proposal"}, `A press takes a value into the merged body. Marked are changes to ${marked}.`)];
     place.replaceChildren(sides, ...(members ? [...titles, el("div", {class: "wide"}, members.made)] : []));
@@ -123,12 +129,12 @@ function comparing({live, kindOf, base}, area, take) {
 
 /** Returns the elements for settling: the versions, and a body to edit, which is saved after one of them. */
 function settling(db, id, versions, {text, saved}, notes) {
-  const {live} = versions, area = typing("merged body", text, saved), behind = el("p", {role: "status"});
+  const {live, bodies} = versions, area = typing("merged body", text, saved), behind = el("p", {role: "status"});
   const others = live.length > 2 ? `the other ${live.length - 1} versions` : "the other version";
   let parent = live[0];
   const say = () => behind.replaceChildren(`Settling saves this after ${shortRev(parent._rev)}, and then deletes ${others}.`);
   const take = leaf => {
-    [parent, area.value] = [leaf, shown(bodyOf(leaf))];
+    [parent, area.value] = [leaf, typable(bodies.get(leaf))];
     say();
     mark();
   };
@@ -154,15 +160,15 @@ function beside(db, id) {
 
 /** Shows the versions of a document side by side, and a merged body, or what was typed before. */
 export async function settle(page, db, id, typed) {
-  const leaves = await askLeaves(db, id, false, page), found = living(leaves), kinds = kindsOf(leaves);
+  const leaves = await askPaths(page, db, id), found = living(leaves), kinds = kindsOf(leaves);
   if (found.length < 2 && typed === undefined) {
     markSettled(db, id);
     return page.show(heading("Nothing to settle"), el("p", {}, link(id, db, "document", id), ` has ${found.length} version(s).`), goingOn(db, id));
   }
-  const live = found.length ? found : leaves.slice(0, 1), kindOf = leaf => kinds[leaves.indexOf(leaf)];
-  const base = await ancestorOf(page, db, id), {body, touching} = merge(base ? bodyOf(base) : UNKNOWN, live.map(bodyOf));
+  const live = found.length ? found : leaves.slice(0, 1), bodies = new Map(live.map(leaf => [leaf, bodyOf(leaf)])), kindOf = leaf => kinds[leaves.indexOf(leaf)];
+  const base = await ancestorOf(page, db, id, found), {body, touching} = merge(base ? bodyOf(base) : UNKNOWN, [...bodies.values()]);
   const ancestor = base ? el("details", {}, el("summary", {}, `their common ancestor ${shortRev(base._rev)}`), code(bodyOf(base))) : "";
   const kept = [el("p", {class: "proposal"}, "This is what you typed before. Changes made since then are not in it.")];
-  const notes = typed === undefined ? proposal(base, touching) : kept, texts = {text: typed ?? shown(body), saved: shown(body)};
-  page.show(heading("Settle ", named(id)), beside(db, id), ancestor, ...settling(db, id, {live, kindOf, base}, texts, notes));
+  const notes = typed === undefined ? proposal(base, touching) : kept, saved = typable(body), texts = {text: typed ?? saved, saved};
+  page.show(heading("Settle ", named(id)), beside(db, id), ancestor, ...settling(db, id, {live, bodies, kindOf, base}, texts, notes));
 }
