@@ -27,8 +27,21 @@ export class Stopped extends Error {
   }
 }
 
-/** Stand for the changes that were sent and aren't answered yet. */
-export const unanswered = new Set();
+/** Stand for the changes that are under way: those that were sent and aren't answered yet, and rows of such. */
+const changing = new Set();
+
+export const isChanging = () => changing.size > 0;
+
+/** Does some work, which counts as a change under way. */
+export async function underWay(work) {
+  const mark = {};
+  changing.add(mark);
+  try {
+    return await work();
+  } finally {
+    changing.delete(mark);
+  }
+}
 
 /** Returns the path of a database, of a document, or of another page. */
 export function pathTo(...parts) {
@@ -63,23 +76,20 @@ function valueOf(text) {
 
 /** Sends a request and returns the text of its reply, with its status; throws TooLong, Stopped, or what `fetch` throws. */
 async function send(path, {limit, isWrite, ...sent}) {
-  const mark = {};
-  if (isWrite) unanswered.add(mark);
   try {
     // `fetch` refuses a relative address where the page was opened with a password in its own.
     const reply = await fetch(location.origin + path, {...sent, cache: "no-store", redirect: "error"});
     return [reply.ok, reply.status, await textOf(reply, limit)];
   } catch (error) {
     throw sent.signal?.aborted ? new Stopped(isWrite) : error;
-  } finally {
-    unanswered.delete(mark);
   }
 }
 
 /** Sends a request and returns the value of its reply; throws Refused, and what `send` throws. */
 export async function ask(method, path, {body, signal, limit = LIMIT, isWrite = body !== undefined} = {}) {
   const sent = {method, body: body === undefined ? undefined : write(body), signal};
-  const [isFine, status, text] = await send(path, {...sent, limit, isWrite}), value = valueOf(text);
+  const asking = () => send(path, {...sent, limit, isWrite});
+  const [isFine, status, text] = await (isWrite ? underWay(asking) : asking()), value = valueOf(text);
   if (!isFine || (isObject(value) && value.error === "no reply of couchd")) throw new Refused(status, value);
   return value;
 }

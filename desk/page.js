@@ -1,5 +1,5 @@
 // The view on the screen: what acts on it, what it waits for, and how it is left. A view that was left acts no more.
-import {Stopped, TooLong, unanswered} from "./client.js";
+import {Stopped, TooLong, isChanging} from "./client.js";
 import {actions, el, heading, link, megabytes, placeOf, wordsHere} from "./elements.js";
 
 /** How long a work may take until a sign of it is shown, in milliseconds. */
@@ -149,13 +149,13 @@ function moved() {
 
 /** Removes the view on the screen, whose requests end, before the next one asks for anything. */
 function removeView() {
-  const isUnanswered = unanswered.size > 0;
+  const wasChanging = isChanging();
   view.whenLeft();
   stopAll();
   view = newView();
   address = location.hash;
   placed("view").replaceChildren();
-  tell(...(isUnanswered ? [el("p", {}, "The view before was left while a change was under way: whether the server made it isn't known.")] : []));
+  tell(...(wasChanging ? [el("p", {}, "The view before was left while a change was under way: whether the server made it isn't known.")] : []));
   drawSign();
 }
 

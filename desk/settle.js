@@ -1,5 +1,5 @@
 // Settling: what each version changed, one merged body, and then the others deleted.
-import {Refused, TooLong, askLeaves, askUnless, bodyOf, bodyTyped, isAbsent, orTooLong, pathTo, put, query} from "./client.js";
+import {Refused, TooLong, askLeaves, askUnless, bodyOf, bodyTyped, isAbsent, orTooLong, pathTo, put, query, underWay} from "./client.js";
 import {same, typable} from "./json.js";
 import {commonAncestor, kindsOf} from "./tree.js";
 import {UNKNOWN, merge} from "./difference.js";
@@ -77,7 +77,7 @@ function goingOn(db, id) {
  */
 async function settled(page, db, id, parent, losers, body) {
   const written = parent._deleted || !same(body, bodyOf(parent)), kept = written ? await put(db, id, parent._rev, body, page) : parent._rev;
-  const {isDone, said} = await deleteLosers(page, db, id, kept, losers);
+  const {isDone, said} = await underWay(() => deleteLosers(page, db, id, kept, losers));
   if (isDone) markSettled(db, id);
   const begun = el("p", {}, `${shortRev(kept)} is ${written ? "written" : "kept as it was"}.`);
   const again = isDone ? [] : [actions(button("Look at it again", page => page.again()))];

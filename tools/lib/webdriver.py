@@ -44,6 +44,10 @@ class Element:
         """Returns what a reader sees; white space is collapsed."""
         return self.ask("GET", "/text")
 
+    def shown(self):
+        """Returns the text that is there, seen or not."""
+        return self.ask("GET", "/property/textContent")
+
     def value(self):
         """Returns what is typed in a field."""
         return self.ask("GET", "/property/value")

@@ -13,6 +13,7 @@ def shown_within_a_second(desk: Desk, what: str, words: list[str], css: str, tex
     too. What the browser takes for the longest requests alone is reported beside it, and decides nothing.
     """
     for _ in range(3):
+        desk.forget(words[0])
         desk.go()
         before = desk.processor_time()
         took = desk.run(SHOWN, words, css, text)
@@ -54,6 +55,7 @@ def check_long(place: Place, desk: Desk) -> None:
     desk.find("pre.body", "xxx")
     desk.emulate("Network.enable")
     desk.emulate("Network.emulateNetworkConditions", offline=False, latency=100, downloadThroughput=-1, uploadThroughput=-1)
+    desk.forget("many")
     desk.go("many")
     desk.press_button("Stop")
     desk.find("[role=status]", "stopped at")

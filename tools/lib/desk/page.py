@@ -6,7 +6,7 @@ from lib.desk.place import Place
 from lib.server import ADMIN
 from lib.webdriver import Browser, Element, Failed
 
-TAB, ENTER, SPACE = "\ue004", "\ue007", " "
+TAB, ENTER, ESCAPE, ALT = "\ue004", "\ue007", "\ue00c", "\ue00a"
 
 
 class Desk(Browser):
@@ -27,6 +27,19 @@ class Desk(Browser):
         go = "document.querySelector('#view').replaceChildren(); const next = '#/' + args.map(encodeURIComponent).join('/');"
         self.run(go + " if (next === location.hash) dispatchEvent(new HashChangeEvent('hashchange')); else location.hash = next;", *words)
         return self.find(css, text)
+
+    def move(self, *words: str) -> None:
+        """Changes the address to that of a view, as a link does, and returns once the desk has noticed."""
+        moved = "const noticed = new Promise(done => addEventListener('hashchange', () => setTimeout(done), {once: true}));"
+        self.run(f"{moved} location.hash = '#/' + args.map(encodeURIComponent).join('/'); await noticed;", *words)
+
+    def forget(self, db: str) -> None:
+        """Has the desk forget which conflicts it found in a database."""
+        self.run("(await import(location.origin + '/_desk/conflicts.js')).forget(args[0])", db)
+
+    def heading(self) -> str:
+        """Returns the heading of the view on the screen, or "" while there is none."""
+        return self.run("return document.querySelector('#view h2')?.textContent ?? ''")
 
     def press_button(self, text: str) -> None:
         self.find("button", text).click()

@@ -3,8 +3,12 @@ import argparse
 import contextlib
 import http.client
 import json
+import os
 import shutil
+import signal
 import tempfile
+import time
+from collections.abc import Iterator
 from typing import Any
 from urllib.parse import quote
 
@@ -74,11 +78,35 @@ class Place:
     def address(self, user: str) -> str:
         return f"http://{quote(user)}:pw@127.0.0.1:{self.port}/_desk/"
 
-    def writes(self) -> list[str]:
-        """Returns the requests that write, as nginx logged them."""
+    def requests(self) -> list[str]:
+        """Returns the requests that were answered or broken off, as nginx logged them."""
         with open(f"{self.room}/access.log", encoding="utf-8") as file:
-            asked = [line.split('"')[1] for line in file]
-        return [line for line in asked if line.startswith(("PUT", "POST", "DELETE"))]
+            return [line.split('"')[1] for line in file]
+
+    def writes(self) -> list[str]:
+        """Returns the requests that write."""
+        return [line for line in self.requests() if line.startswith(("PUT", "POST", "DELETE"))]
+
+    @contextlib.contextmanager
+    def stopped(self) -> Iterator[None]:
+        """Has the server's process hang, and go on at the end."""
+        self.server.process.send_signal(signal.SIGSTOP)
+        try:
+            yield
+        finally:
+            self.server.process.send_signal(signal.SIGCONT)
+
+    def settle_down(self) -> None:
+        """Waits until the server has done what it was sent before, and what a reply could have a page send."""
+        for _ in range(3):
+            self.ask("GET", "/")
+            time.sleep(0.3)
+
+    def processor_time(self) -> float:
+        """Returns how many seconds of a processor the server has taken."""
+        with open(f"/proc/{self.server.process.pid}/stat", encoding="ascii") as file:
+            fields = file.read().rpartition(")")[2].split()
+        return (int(fields[11]) + int(fields[12])) / os.sysconf("SC_CLK_TCK")
 
 
 def revision(name: str, *back: str, **body: Any) -> dict[str, Any]:
@@ -89,7 +117,7 @@ def revision(name: str, *back: str, **body: Any) -> dict[str, Any]:
 
 def seed(place: Place) -> None:
     """Fills a database with what the checks look at."""
-    for name in ["notes", "many", "long", "odd", "rules"]:
+    for name in ["notes", "many", "long", "odd", "rules", "left", "list", "members", "large"]:
         place.made("PUT", f"/{name}")
         place.made("PUT", f"/{name}/_security", {"members": {"names": ["alice"]}, "admins": {"names": []}})
     place.made("POST", "/notes/_bulk_docs", {"docs": [{"_id": f"n{number:03}", "v": number} for number in range(60)]})

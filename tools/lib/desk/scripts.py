@@ -97,3 +97,14 @@ const real = fetch;
 globalThis.fetch = async () => new Response(args[0]);
 try { return (await m.ask('GET', '/x')).length; } catch (error) { return error.message; } finally { globalThis.fetch = real; }
 """
+
+# Returns the texts of what can be pressed or typed in within the view.
+LIVE = """
+const isLive = one => one.checkVisibility() && !one.closest('[inert]') && !one.disabled;
+return [...document.querySelectorAll('#view button, #view a, #view textarea, #view input, #view select')].filter(isLive).map(one => one.textContent);
+"""
+
+# Presses each button with a text that is in the page, seen or not.
+PRESSED = """
+for (const one of document.querySelectorAll('button')) if (one.textContent === args[0]) one.click();
+"""
