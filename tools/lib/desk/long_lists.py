@@ -53,13 +53,12 @@ def check_long(place: Place, desk: Desk) -> None:
     compare("long: nothing of it is there", 0, len(desk.all("pre.body")))
     desk.press_button("Fetch 1.2 MB")
     desk.find("pre.body", "xxx")
-    desk.emulate("Network.enable")
-    desk.emulate("Network.emulateNetworkConditions", offline=False, latency=100, downloadThroughput=-1, uploadThroughput=-1)
+    desk.slow(100)
     desk.forget("many")
     desk.go("many")
     desk.press_button("Stop")
     desk.find("[role=status]", "stopped at")
-    desk.emulate("Network.emulateNetworkConditions", offline=False, latency=0, downloadThroughput=-1, uploadThroughput=-1)
+    desk.slow(0)
 
 
 CHECKS = [check_long]

@@ -108,3 +108,30 @@ return [...document.querySelectorAll('#view button, #view a, #view textarea, #vi
 PRESSED = """
 for (const one of document.querySelectorAll('button')) if (one.textContent === args[0]) one.click();
 """
+
+# Opens the list of conflicts of a database, and returns after how many milliseconds the first and the last row stood.
+FLOWING = """
+const [words, count] = args, begun = performance.now(), found = {first: 20000, last: 20000};
+return new Promise(done => {
+  const look = () => {
+    const rows = document.querySelectorAll('table.conflicts tbody tr').length, took = performance.now() - begun;
+    if (rows) found.first = Math.min(found.first, took);
+    if (rows < count) return;
+    observer.disconnect();
+    done({...found, last: took});
+  };
+  const observer = new MutationObserver(look);
+  observer.observe(document.querySelector('#view'), {childList: true, subtree: true});
+  location.hash = '#/' + words.map(encodeURIComponent).join('/');
+  setTimeout(() => done(found), 20000);
+});
+"""
+
+# Makes the requests of such a list alone, all at once, and returns how many milliseconds that took.
+PLAIN = """
+const [db, ids] = args, begun = performance.now();
+const get = async path => (await fetch(location.origin + path, {cache: 'no-store'})).text();
+await Promise.all([get('/' + db), get(`/${db}/_changes?since=0&limit=500&style=all_docs`)]);
+await Promise.all(ids.map(id => get(`/${db}/${id}?open_revs=all`)));
+return performance.now() - begun;
+"""

@@ -1,0 +1,76 @@
+"""The list of conflicts as it comes: its first row, its last, and what it costs, beside the same requests by a plain client."""
+import os
+
+from lib.checks import compare
+from lib.desk.page import Desk
+from lib.desk.place import Place, revision
+from lib.desk.scripts import FLOWING, PLAIN
+
+COUNT, TRIES = 300, 5
+IDS = [f"f{number:03}" for number in range(COUNT)]
+
+
+def fill(place: Place) -> None:
+    """Makes a database of three hundred conflicts, among as many documents without one."""
+    place.made("PUT", "/flow")
+    place.push("flow", *[{"_id": name, **revision(one, "r1", v=one)} for name in IDS for one in ["a2", "b2"]])
+    place.push("flow", *[{"_id": f"g{number:03}", **revision("r1", v=1)} for number in range(COUNT)])
+
+
+def try_once(place: Place, desk: Desk) -> dict[str, float]:
+    """Returns when the first and the last row stood, when the same requests alone were answered, and what both cost the server."""
+    desk.forget("flow")
+    desk.go()
+    begun = place.processor_time()
+    shown = desk.run(FLOWING, ["flow"], COUNT)
+    middle = place.processor_time()
+    plain = desk.run(PLAIN, "flow", IDS)
+    return {**shown, "plain": plain, "server": (middle - begun) * 1000, "plain_server": (place.processor_time() - middle) * 1000}
+
+
+def is_flowing(tried: dict[str, float]) -> bool:
+    """
+    Tells whether a try shows a list that flows. Beside an idle server the times count. Where others keep the processors
+    busy, the ratios do: to what the same requests alone took, and of the first row to the last.
+    """
+    is_steady = tried["first"] < tried["last"] / 2 and tried["server"] < 2000
+    is_quick = tried["first"] < 300 and tried["last"] < 1000
+    is_busy = os.getloadavg()[0] > (os.cpu_count() or 1)
+    return is_steady and (is_quick or is_busy and tried["last"] < 2 * tried["plain"])
+
+
+def check_flowing(place: Place, desk: Desk) -> None:
+    """Three hundred rows: the first one soon, the last one nearly as soon as the requests alone allow."""
+    fill(place)
+    for _ in range(TRIES):
+        tried = try_once(place, desk)
+        words = ", ".join(f"{name} {value:.0f}" for name, value in tried.items())
+        desk.times.append(f"300 rows, in ms: {words}")
+        if is_flowing(tried):
+            break
+    compare("flow: the first row and the last one", True, is_flowing(tried) or desk.times)
+
+
+def check_costs(place: Place, desk: Desk) -> None:
+    """A document costs one request at most, and one without a conflict none; the list says how far it is."""
+    if place.ask("GET", "/flow")[0] == 404:
+        fill(place)
+    desk.forget("flow")
+    desk.go()
+    before = len(place.requests())
+    desk.run(FLOWING, ["flow"], COUNT)
+    desk.find("[role=status]", f"{COUNT} found among {2 * COUNT} documents")
+    asked = sorted(line.split()[1].partition("?")[0] for line in place.requests()[before:])
+    compare("flow: what the list costs", sorted(["/flow", "/flow/_changes", "/flow/_changes", *[f"/flow/{name}" for name in IDS]]), asked)
+    desk.forget("flow")
+    desk.go()
+    desk.slow(20)
+    desk.move("flow")
+    desk.find("[role=status]", f" of {2 * COUNT} documents so far")
+    desk.find("table.conflicts a", "f")
+    told = desk.run("const {max, value} = document.querySelector('progress'); return [max, value > 0 && value < max]")
+    compare("flow: how far it is", [2 * COUNT, True], told)
+    desk.slow(0)
+
+
+CHECKS = [check_flowing, check_costs]
