@@ -1,7 +1,7 @@
 // The documents in conflict of a database: how they are found, and kept, so that one is settled after the other.
 import {LIMIT, Stopped, TooLong, ask, askLeaves, orTooLong, pathTo, query} from "./client.js";
-import {write} from "./json.js";
-import {el, heading, link, megabytes, revsOf, row, table} from "./elements.js";
+import {plain, write} from "./json.js";
+import {el, heading, link, megabytes, placeOf, revsOf, row, table} from "./elements.js";
 import {button, failure} from "./page.js";
 
 /** How many changes are requested at once, how many documents first, and how often new rows are drawn, in milliseconds. */
@@ -96,7 +96,8 @@ async function lookUp(page, db, list, report) {
 /** Keeps the rows of a table as the list is: `add` notes an entry, and `draw` draws all that were noted together. */
 function rowsOf(db, list, body) {
   const drawn = new Map(), waiting = new Set();
-  const lineOf = ({id, count, text}) => row(link(id, db, "document", id), count, text, link("settle", db, "settle", id));
+  const settleLink = id => el("a", {href: placeOf(db, "settle", id), "aria-label": `settle ${plain(id)}`}, "settle");
+  const lineOf = ({id, count, text}) => row(link(id, db, "document", id), count, text, settleLink(id));
   const behind = entry => {
     let next = null;
     for (let place = list.entries.length - 1; list.entries[place] !== entry; place--) next = drawn.get(list.entries[place]) ?? next;

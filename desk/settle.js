@@ -36,7 +36,7 @@ const proposal = (base, touching) => [
 
 /** Throws where a revision is no longer a leaf, or is deleted: then nothing else may be deleted. */
 async function expectAlive(page, db, id, rev) {
-  const leaves = living(await askLeaves(db, id, false, page));
+  const leaves = living(await askLeaves(db, id, false, {...page, limit: Infinity}));
   if (!leaves.some(leaf => leaf._rev === rev)) throw new Error(`${shortRev(rev)} was changed meanwhile. Nothing more was deleted; look again.`);
 }
 
@@ -144,7 +144,7 @@ function settling(db, id, versions, {text, saved}, notes) {
       await settled(page, db, id, parent, live.filter(leaf => leaf !== parent), bodyTyped(area.value));
     } catch (error) {
       if (error.status !== 409) throw error;
-      await settle(page, db, id, area.value);
+      await settle({...page, limit: Infinity}, db, id, area.value);
       page.tell(...failure(error), el("p", {}, "Nothing was written. The versions below are the current ones; what you typed is kept."));
     }
   };

@@ -7,8 +7,8 @@ from urllib.parse import quote
 from lib.checks import compare
 from lib.desk.page import Desk
 from lib.desk.place import GREATEST, LEAST, Place
-from lib.desk.rows import ancestor_of, common_length, merged, revisions_of, some_leaves, some_lines, some_text, some_value
-from lib.desk.scripts import MERGES, STREAMED
+from lib.desk.rows import NAMES, Absent, ancestor_of, common_length, differing, merged, revisions_of, some_leaves, some_lines, some_text, some_value, with_value
+from lib.desk.scripts import DIFFERING, MERGES, STREAMED, WITH_VALUE
 from lib.server import text_of
 
 
@@ -25,6 +25,8 @@ def check_json(desk: Desk, chance: random.Random) -> None:
     compare("json: values that are read and written", [text_of(json.loads(text)) for text in texts], [text_of(json.loads(text)) for text in again])
     shown = imported(desk, "json", "return args[0].map(text => m.shown(m.read(text)))", texts)
     compare("json: values that are shown", [text_of(json.loads(text)) for text in texts], [text_of(json.loads(text)) for text in shown])
+    exact = ["1.50", "-0", "[1e5,-0]", '{"a":0.10}', '{"a":9007199254740993,"b":"x"}', '["3-1e5",{"n":1E400}]', "[1,[2,-0]]"]
+    compare("json: numbers are as they were written", exact, imported(desk, "json", "return args[0].map(text => m.write(m.read(text)))", exact))
     pairs = [(one, other) for one in texts[:40] for other in texts[:40]]
     wanted = [text_of(json.loads(one)) == text_of(json.loads(other)) for one, other in pairs]
     compare("json: equality", wanted, imported(desk, "json", "return args[0].map(([one, other]) => m.same(m.read(one), m.read(other)))", pairs))
@@ -82,6 +84,19 @@ def check_differences(desk: Desk, chance: random.Random) -> None:
         compare(f"merge: {row}", (text_of(wanted), sorted(paths)), (text_of(json.loads(body)), sorted(touching)))
 
 
+def check_values_at_paths(desk: Desk, chance: random.Random) -> None:
+    """The members in which two bodies differ, and bodies with another value at a path, against python's own."""
+    pairs = [(some_value(chance, 2, object_only=True), some_value(chance, 2, object_only=True)) for _ in range(100)]
+    pairs += [(one, some_value(chance, 2, near=one, object_only=True)) for one, _ in pairs]
+    texts = [[json.dumps(one), json.dumps(other)] for one, other in pairs]
+    compare("difference: members that differ", [differing(*pair) for pair in pairs], imported(desk, "difference", DIFFERING, texts))
+    paths = [[chance.choice(NAMES) for _ in range(chance.randint(1, 3))] for _ in pairs]
+    wanted = [[with_value(one, path, other), with_value(one, path, Absent)] for (one, other), path in zip(pairs, paths)]
+    rows = [[*row, path] for row, path in zip(texts, paths)]
+    found = [[json.loads(text) for text in row] for row in imported(desk, "difference", WITH_VALUE, rows)]
+    compare("difference: bodies with another value", [[text_of(one) for one in row] for row in wanted], [[text_of(one) for one in row] for row in found])
+
+
 def check_modules(_: Place, desk: Desk) -> None:
     """The modules without the page, by rows, against python's own results."""
     chance = random.Random(77)
@@ -90,6 +105,7 @@ def check_modules(_: Place, desk: Desk) -> None:
     check_streamed(desk)
     check_rows_of_trees(desk, chance)
     check_differences(desk, chance)
+    check_values_at_paths(desk, chance)
 
 
 CHECKS = [check_modules]

@@ -1,4 +1,5 @@
 """Makes rows for the desk's modules, and works out in plain python what has to come of them."""
+from typing import Any
 
 NAMES = ["a", "b", "c", "__proto__", "1", "2", "<b>", "\u202e"]
 SCALARS = [None, True, False, 0, 1, -7, 2**64 - 1, 2**64 - 2, -(2**63), "", "x", "<img src=x onerror=alert(1)>", "\u2028\u202e", "\U0001f600"]
@@ -66,6 +67,21 @@ def merge_of(base, sides, path):
 def merged(base, sides):
     """Returns the merge of bodies behind an ancestor, or None where that isn't known, and the paths that touch."""
     return merge_of(Unknown if base is None else base, sides, [])
+
+
+def differing(one: dict[str, Any], other: dict[str, Any]) -> list[str]:
+    """Returns the names of the members in which two objects differ, in the order of their UTF-16 units."""
+    names = {name for name in {**one, **other} if name not in one or name not in other or not is_same(one[name], other[name])}
+    return sorted(names, key=lambda name: name.encode("utf-16-be"))
+
+
+def with_value(body: dict[str, Any], path: list[str], value: Any) -> dict[str, Any]:
+    """Returns a body with another value at a path, or without one where that is Absent."""
+    name, inner = path[0], body.get(path[0])
+    if len(path) > 1:
+        value = with_value(inner if isinstance(inner, dict) else {}, path[1:], value)
+    others = {other: kept for other, kept in body.items() if other != name}
+    return others if value is Absent else {**others, name: value}
 
 
 # ---- lines

@@ -135,3 +135,63 @@ await Promise.all([get('/' + db), get(`/${db}/_changes?since=0&limit=500&style=a
 await Promise.all(ids.map(id => get(`/${db}/${id}?open_revs=all`)));
 return performance.now() - begun;
 """
+
+# Returns the rows of the table of members: the member, what stands at either side, and which of them is taken.
+MEMBERS = """
+const sideOf = cells => ['left', 'right'].filter((_, place) => cells[place + 1].querySelector('button').getAttribute('aria-pressed') === 'true').join(' ');
+const textOf = cell => [...(cell.querySelector('button.take')?.children ?? [cell])].map(one => one.textContent).join(' ');
+return [...document.querySelectorAll('table.members tbody tr')].map(row => [...[...row.cells].map(textOf), sideOf(row.cells)]);
+"""
+
+# Returns the places, among all elements, of those that the keys have to lead to.
+REACHABLE = """
+const controls = 'a[href], button, input, select, textarea, summary, [tabindex="0"]', all = [...document.querySelectorAll('body *')];
+return [...document.querySelectorAll(controls)].filter(one => one.checkVisibility()).map(one => all.indexOf(one));
+"""
+
+# Returns the element that has the focus, with where it is and whether that is seen, or null.
+FOCUSED = """
+const one = document.activeElement, all = [...document.querySelectorAll('body *')];
+if (one === document.body) return null;
+const {left, right, top, bottom} = one.getBoundingClientRect(), style = getComputedStyle(one);
+const isSeen = style.outlineStyle !== 'none' && parseFloat(style.outlineWidth) >= 1;
+return {place: all.indexOf(one), name: one.getAttribute('aria-label') ?? one.textContent, left, right, top: top + scrollY, bottom: bottom + scrollY, isSeen};
+"""
+
+# Returns what is marked by a colour and neither by a sign nor by a word.
+SIGNS = """
+const found = [], expect = (css, isFine) => document.querySelectorAll(css).forEach(one => isFine(one) || found.push(one.outerHTML.slice(0, 200)));
+const mark = one => getComputedStyle(one, '::before').content;
+expect('.difference .added', one => one.textContent.startsWith('+ '));
+expect('.difference .taken', one => one.textContent.startsWith('- '));
+expect('button.take[aria-pressed="true"]', one => mark(one).includes('\u2713'));
+expect('button.take[aria-pressed="false"]', one => !mark(one).includes('\u2713'));
+expect('.word', one => one.textContent.trim() !== '');
+expect('svg.tree a', one => / (winner|conflict|deleted|held|not held|more)$/.test(one.textContent));
+return found;
+"""
+
+# Returns the names of the members in which pairs of bodies differ.
+DIFFERING = """
+const {read} = await import(location.origin + '/_desk/json.js');
+return args[0].map(pair => m.differing(...pair.map(read)));
+"""
+
+# Returns bodies with another value at a path, and without one there.
+WITH_VALUE = """
+const {read, write} = await import(location.origin + '/_desk/json.js');
+return args[0].map(([body, value, path]) => [read(value), m.ABSENT].map(one => write(m.withValue(read(body), path, one))));
+"""
+
+# Fetches a long reply that was asked for, and returns after how many milliseconds its versions could be settled.
+SETTLED_VIEW = """
+const begun = performance.now(), buttons = () => [...document.querySelectorAll('button')];
+buttons().find(one => one.textContent.startsWith('Fetch')).click();
+while (performance.now() - begun < 50000) {
+  await new Promise(done => setTimeout(done, 20));
+  if (!buttons().some(one => one.textContent === 'Settle')) continue;
+  await new Promise(done => requestAnimationFrame(() => requestAnimationFrame(done)));
+  return performance.now() - begun;
+}
+return 50000;
+"""

@@ -1,0 +1,62 @@
+"""Documents of 1 MB: each view of one within five seconds of work, or a sign of what it waits for."""
+import json
+import os
+from typing import Any
+
+from lib.checks import compare
+from lib.desk.long_lists import shown_within
+from lib.desk.page import Desk
+from lib.desk.place import Place, revision
+from lib.desk.scripts import SETTLED_VIEW
+
+BOUND = 5000
+
+
+def bodies(tag: str) -> dict[str, dict[str, Any]]:
+    """Returns bodies of nearly 1 MB of several forms, whose values differ by a tag."""
+    deep: dict[str, Any] = {"leaf": tag * 400_000}
+    for number in range(90):
+        deep = {"d": deep, "p": "x" * 5_000}
+    return {
+        "string": {"text": f"{tag} word " * 140_000},
+        "members": {f"m{number:05}": f"{tag}{number}" for number in range(48_000)},
+        "numbers": {"list": [number if number % 7 else tag for number in range(150_000)]},
+        "objects": {"rows": [{"a": number, "b": f"{tag}{number}", "c": None} for number in range(27_000)]},
+        "deep": deep,
+    }
+
+
+def check_large(place: Place, desk: Desk) -> None:
+    """A document of 1 MB is shown and edited within five seconds; parts of it are shown first, and others after a press."""
+    for name, body in bodies("a").items():
+        size = len(json.dumps(body, separators=(",", ":")))
+        compare(f"large: {name} has nearly 1 MB", True, 800_000 < size < 1_000_000)
+        place.push("large", {"_id": name, **revision("a1", **body)})
+        path = [f"/large/{name}?open_revs=all"]
+        shown_within(BOUND, desk, f"{name} of 1 MB", ["large", "document", name], "#view h3", "winner", path)
+        shown_within(BOUND, desk, f"{name} of 1 MB to be edited", ["large", "edit", name], "#view h2", "Edit", path)
+        compare(f"large: {name} is whole in the editor", True, desk.run("return document.querySelector('textarea').value.length") >= size * 0.99)
+    desk.go("large", "document", "objects")
+    lines = "return document.querySelector('pre.body').textContent.split('\\n').length"
+    first = desk.run(lines)
+    desk.press_button("More of 135,004 lines")
+    compare("large: more of it after a press", (True, True), (first < 10_000, desk.run(lines) > first))
+
+
+def check_large_settled(place: Place, desk: Desk) -> None:
+    """Two versions of 1 MB each are asked for before they are fetched, and can then be settled within ten seconds."""
+    for name, body in bodies("b").items():
+        place.push("large", {"_id": f"two-{name}", **revision("b1", **body)}, {"_id": f"two-{name}", **revision("a1", **bodies("a")[name])})
+        desk.go("large", "settle", f"two-{name}", css="#told", text="was not fetched")
+        before = desk.processor_time()
+        took = desk.run(SETTLED_VIEW)
+        spent = (desk.processor_time() - before) * 1000
+        is_busy = os.getloadavg()[0] > (os.cpu_count() or 1)
+        desk.times.append(f"two versions of {name}: {took:.0f} ms, {spent:.0f} of the processor")
+        compare(f"large: two versions of {name}", True, took < 2 * BOUND or is_busy and spent < 2 * BOUND or desk.times[-1])
+    desk.press_button("Settle")
+    desk.find("h2", "Settled")
+    compare("large: what lives", 1, len(place.living("large", "two-deep")))
+
+
+CHECKS = [check_large, check_large_settled]
