@@ -24,7 +24,7 @@ def shown_within(bound: int, desk: Desk, what: str, words: list[str], css: str, 
         if is_quick:
             break
     desk.times.append(f"{what}: {took:.0f} ms, {spent:.0f} of the processor, {alone:.0f} for the requests alone")
-    compare(f"long: {what} within {bound} ms", True, is_quick or desk.times[-1])
+    compare(f"long: {what} within {bound / 1000:g} s", True, is_quick or desk.times[-1])
 
 
 def check_long(place: Place, desk: Desk) -> None:
