@@ -52,28 +52,43 @@ def check_looks(place: Place, desk: Desk) -> None:
 
 
 def seed_pictures(place: Place) -> None:
-    """Makes a document for the pictures, with names of revisions as a server gives them."""
-    names = [hashlib.md5(f"week {number}".encode()).hexdigest() for number in range(40)]
-    base = {"day": "Monday", "guests": ["Ann", "Bo"], "room": 12, "title": "Week 48"}
+    """Makes documents for the pictures, with names of revisions as a server gives them."""
+    names = [hashlib.md5(f"week {number}".encode()).hexdigest() for number in range(60)]
+    base = {"day": "Monday", "guests": ["Ann", "Bo"], "place": {"house": "North", "room": 12}, "title": "Week 48"}
     place.made("PUT", "/plans")
     place.push(
         "plans",
         {"_id": "week", **revision(*names[2::-1], **base)},
-        {"_id": "week", **revision(names[3], *names[2::-1], **{**base, "day": "Tuesday", "budget": GREATEST})},
-        {"_id": "week", **revision(*names[11:4:-1], *names[2::-1], **{**base, "guests": ["Ann", "Bo", "Cy"], "room": 7})},
+        {"_id": "week", **revision(names[3], *names[2::-1], **{**base, "day": "Tuesday", "budget": GREATEST, "place": {"house": "South", "room": 12}})},
+        {"_id": "week", **revision(*names[11:4:-1], *names[2::-1], **{**base, "day": "Friday", "guests": ["Ann", "Bo", "Cy"], "place": {"house": "North", "room": 7}})},
         {"_id": "week", **revision(*names[31:28:-1], names[0], _deleted=True)},
     )
+    for number, name in enumerate(["menu", "shifts", "garden", "fleet", "keys"], 40):
+        place.push("plans", *[{"_id": name, **revision(one, names[number], day=one)} for one in names[number + 1 : number + 3]])
 
 
 def take_pictures(options: argparse.Namespace, place: Place, desk: Desk) -> None:
-    """Writes pictures of a tree and of a merge into a folder."""
+    """Writes pictures of the list, of a tree, of a merge by members, and of what is shown once it is settled, into a folder."""
     seed_pictures(place)
-    for name, words in {"tree": ["plans", "document", "week"], "merge": ["plans", "settle", "week"]}.items():
-        desk.resize(options.width, 600)
-        desk.go(*words)
-        desk.find("svg.tree text" if name == "tree" else "section.side", "winner")
-        desk.run("document.activeElement.blur()")
+
+    def take(name: str) -> None:
+        desk.run("document.activeElement.blur(); scrollTo(0, 0)")
         desk.picture(f"{options.pictures}/desk-{name}.png")
+        desk.resize(options.width, 400)
+
+    desk.resize(options.width, 400)
+    desk.go("plans")
+    desk.find("button", "Look again")
+    take("list")
+    desk.go("plans", "document", "week")
+    desk.find("svg.tree text", "winner")
+    take("tree")
+    desk.go("plans", "settle", "week")
+    desk.find("button.open", "place").click()
+    take("merge")
+    desk.press_button("Settle")
+    desk.find("button.next", "Next: ")
+    take("settled")
 
 
 CHECKS = [check_keys, check_looks]
