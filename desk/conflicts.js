@@ -41,12 +41,17 @@ export function markSettled(db, id) {
   if (entry) entry.isSettled = true;
 }
 
-/** Returns where a document is among those that were found, and its neighbours that are not settled; notes that it was looked at. */
+/** Notes that a document was looked at: the list goes on there. */
+export function markVisited(db, id) {
+  const list = listOf(db);
+  list.at = list.byId.get(id) ?? list.at;
+}
+
+/** Returns where a document is among those that were found, and its neighbours that are not settled. */
 export function placeAmong(db, id) {
-  const list = listOf(db), {entries} = list, place = entries.indexOf(list.byId.get(id));
+  const {entries, byId} = listOf(db), place = entries.indexOf(byId.get(id));
   const others = openOnes([...entries.slice(place + 1), ...entries.slice(0, Math.max(place, 0))]);
   const numbered = entry => entry && {id: entry.id, number: entries.indexOf(entry) + 1};
-  if (place >= 0) list.at = entries[place];
   return {number: place + 1, of: entries.length, next: numbered(others[0]), previous: numbered(others.at(-1))};
 }
 
@@ -121,7 +126,7 @@ function sumsOf(list, said, bar) {
   const sums = {total: 0, passed: list.isWhole ? 0 : list.looked, end: " so far"};
   sums.draw = () => {
     const found = openOnes(list.entries).length, settled = list.entries.length - found, all = Math.max(sums.total, list.looked);
-    const among = list.isWhole ? all : `${sums.passed} of ${all}`;
+    const among = list.isWhole || !all ? all : `${sums.passed} of ${all}`;
     said.replaceChildren(`${found} found among ${among} documents${settled ? `, ${settled} settled` : ""}${sums.end}`);
     Object.assign(bar, {max: Math.max(all, 1), value: sums.passed});
   };

@@ -4,18 +4,19 @@ import {isExact} from "./json.js";
 import {el, link, placeOf} from "./elements.js";
 import {start, tell} from "./page.js";
 import {changes, databases, documents} from "./lists.js";
-import {conflicts} from "./conflicts.js";
+import {conflicts, markVisited} from "./conflicts.js";
 import {edit, one, write} from "./document.js";
 import {settle} from "./settle.js";
 import {find, views} from "./queries.js";
 import {access, local} from "./access.js";
 
 const VIEWS = {conflicts, documents, changes, find, views, access, local, document: one, edit, new: write, settle};
+const OF_ONE = ["document", "edit", "settle"];
 const TABS = ["conflicts", "documents", "new", "changes", "find", "views", "access", "local"];
 
 /** Shows the path to a view, and the other views of its database. */
 function frame(db, view = "conflicts", ...rest) {
-  const id = ["document", "edit", "settle"].includes(view) ? [link(rest[0], db, "document", rest[0])] : [];
+  const id = OF_ONE.includes(view) ? [link(rest[0], db, "document", rest[0])] : [];
   document.getElementById("where").replaceChildren(link("databases"), ...(db ? [link(db, db)] : []), ...id);
   const tabs = TABS.map(name => el("a", {href: placeOf(db, name), "aria-current": name === view ? "page" : undefined}, name));
   document.getElementById("tabs").replaceChildren(...(db ? tabs : []));
@@ -23,7 +24,11 @@ function frame(db, view = "conflicts", ...rest) {
 }
 
 /** Shows the view that these words name. */
-const load = (page, db, view = "conflicts", ...rest) => (db ? (VIEWS[view] ?? conflicts)(page, db, ...rest) : databases(page));
+function load(page, db, view = "conflicts", ...rest) {
+  if (!db) return databases(page);
+  if (OF_ONE.includes(view)) markVisited(db, rest[0]);
+  return (VIEWS[view] ?? conflicts)(page, db, ...rest);
+}
 
 if (isExact) {
   askUser().then(user => document.getElementById("user").append(user && "you are ", el("bdi", {}, user)));

@@ -30,55 +30,65 @@ function bodyIn(area) {
   }
 }
 
+/** Marks the values that the merged body has. */
+function mark({area, takers}) {
+  const merged = bodyIn(area);
+  takers.forEach(({path, value}, taker) => taker.setAttribute("aria-pressed", `${merged !== null && same(valueAt(merged, path), value)}`));
+}
+
+/** Returns a cell with a side's value at a path: a button that takes it into the merged body. */
+function takerOf(table, path, {body, name}) {
+  const value = valueAt(body, path), change = changeOf(valueAt(table.before, path), value), text = inShort(value);
+  const label = `${path.join(".")}: take ${text.textContent} of ${name}${change && `, ${change}`}`;
+  const take = () => {
+    table.area.value = typable(withValue(bodyTyped(table.area.value), path, value));
+    mark(table);
+  };
+  const made = button([text, change && el("span", {class: "word change"}, change)], take, {class: "take", "aria-label": plain(label)});
+  table.takers.set(made, {path, value});
+  return el("td", {}, made);
+}
+
+/** Returns the name of a member; where both sides have an object there, a button that lists its members, or removes them again. */
+function nameOf(table, path) {
+  const name = named(path.join("."));
+  if (!table.sides.every(({body}) => isObject(valueAt(body, path)))) return name;
+  const turn = event => {
+    const made = event.currentTarget, line = made.closest("tr"), isOpen = made.getAttribute("aria-expanded") === "true";
+    made.setAttribute("aria-expanded", `${!isOpen}`);
+    if (isOpen) while (table.paths.get(line.nextSibling)?.length > path.length) line.nextSibling.remove();
+    else line.after(...linesOf(table, path));
+    mark(table);
+  };
+  return el("button", {type: "button", class: "open", "aria-expanded": "false", click: turn}, name);
+}
+
+/** Returns the lines of the members at a path in which the sides differ, from one on, and a way to more. */
+function linesOf(table, path, from = 0) {
+  const names = differing(...table.sides.map(({body}) => valueAt(body, path))), rest = names.length - from - MOST;
+  const lines = names.slice(from, from + MOST).map(name => {
+    const inner = [...path, name], line = el("tr", {}, el("th", {scope: "row"}, nameOf(table, inner)), ...table.sides.map(side => takerOf(table, inner, side)));
+    table.paths.set(line, inner);
+    return line;
+  });
+  if (rest <= 0) return lines;
+  const add = () => {
+    more.replaceWith(...linesOf(table, path, from + MOST));
+    mark(table);
+  };
+  const more = el("tr", {}, el("td", {colspan: 3}, button(`${rest.toLocaleString("en")} more members of ${path.join(".") || "the body"}`, add)));
+  table.paths.set(more, [...path, ""]);
+  return [...lines, more];
+}
+
 /**
  * Returns a table of the members in which two versions differ, as `{body, name}`, beside what each did to the body
- * `before`. A press takes a value into the text of the area. Members of objects are listed once they are opened.
+ * `before`, and what marks it again. A press takes a value into the text of the area.
  */
 export function memberTable(sides, before, area) {
-  const takers = new Map(), paths = new Map();
-  const mark = () => {
-    const merged = bodyIn(area);
-    takers.forEach(({path, value}, taker) => taker.setAttribute("aria-pressed", `${merged !== null && same(valueAt(merged, path), value)}`));
-  };
-  const take = (path, value) => {
-    area.value = typable(withValue(bodyTyped(area.value), path, value));
-    mark();
-  };
-  const taker = (path, {body, name}) => {
-    const value = valueAt(body, path), change = changeOf(valueAt(before, path), value), text = inShort(value);
-    const label = `${path.join(".")}: take ${text.textContent} of ${name}${change && `, ${change}`}`;
-    const made = button([text, change && el("span", {class: "word change"}, change)], () => take(path, value), {class: "take", "aria-label": plain(label)});
-    takers.set(made, {path, value});
-    return el("td", {}, made);
-  };
-  const nameOf = path => {
-    const values = sides.map(({body}) => valueAt(body, path)), name = named(path.join("."));
-    if (!values.every(isObject)) return name;
-    const opens = event => {
-      const line = event.currentTarget.closest("tr"), isOpen = event.currentTarget.getAttribute("aria-expanded") === "true";
-      event.currentTarget.setAttribute("aria-expanded", `${!isOpen}`);
-      if (isOpen) while (paths.get(line.nextSibling)?.length > path.length) line.nextSibling.remove();
-      else line.after(...linesOf(path));
-      mark();
-    };
-    return el("button", {type: "button", class: "open", "aria-expanded": "false", click: opens}, name);
-  };
-  const lineOf = path => {
-    const line = el("tr", {}, el("th", {scope: "row"}, nameOf(path)), ...sides.map(side => taker(path, side)));
-    paths.set(line, path);
-    return line;
-  };
-  const linesOf = (path, from = 0) => {
-    const names = differing(...sides.map(({body}) => valueAt(body, path))), rest = names.length - from - MOST;
-    const lines = names.slice(from, from + MOST).map(name => lineOf([...path, name]));
-    if (rest <= 0) return lines;
-    const more = el("tr", {}, el("td", {colspan: 3}, button(`${rest} more members`, () => [more.replaceWith(...linesOf(path, from + MOST)), mark()])));
-    paths.set(more, [...path, ""]);
-    return [...lines, more];
-  };
-  area.addEventListener("input", mark);
+  const table = {sides, before, area, takers: new Map(), paths: new Map()};
   const head = el("tr", {}, ...["member", ...sides.map(({name}) => name)].map(name => el("th", {scope: "col"}, name)));
-  const made = el("table", {class: "members"}, el("thead", {}, head), el("tbody", {}, ...linesOf([])));
-  mark();
-  return {made, mark};
+  const made = el("table", {class: "members"}, el("thead", {}, head), el("tbody", {}, ...linesOf(table, [])));
+  mark(table);
+  return {made, mark: () => mark(table)};
 }

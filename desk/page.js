@@ -155,6 +155,8 @@ function removeView() {
   view = newView();
   address = location.hash;
   placed("view").replaceChildren();
+  placed("leaving").close();
+  site.frame();
   tell(...(wasChanging ? [el("p", {}, "The view before was left while a change was under way: whether the server made it isn't known.")] : []));
   drawSign();
 }
