@@ -142,7 +142,10 @@ function resume(list, drawn) {
 
 /** Looks up what the list lacks, or all of it where the database was made anew since. */
 async function complete(page, db, list, sums, report) {
-  const asked = ask("GET", pathTo(db), page).then(found => Object.assign(sums, {total: Number(found.doc_count) + Number(found.doc_del_count)}) && found);
+  const asked = ask("GET", pathTo(db), page).then(found => {
+    sums.total = Number(found.doc_count) + Number(found.doc_del_count);
+    return found;
+  });
   if (list.isWhole && BigInt(write((await asked).update_seq)) < BigInt(list.since)) return lookAgain(page, db);
   return Promise.all([asked, lookUp(page, db, list, report)]);
 }

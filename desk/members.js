@@ -63,14 +63,17 @@ function nameOf(table, path) {
   return el("button", {type: "button", class: "open", "aria-expanded": "false", click: turn}, name);
 }
 
+/** Returns the line of one member. */
+function lineOf(table, path) {
+  const line = el("tr", {}, el("th", {scope: "row"}, nameOf(table, path)), ...table.sides.map(side => takerOf(table, path, side)));
+  table.paths.set(line, path);
+  return line;
+}
+
 /** Returns the lines of the members at a path in which the sides differ, from one on, and a way to more. */
 function linesOf(table, path, from = 0) {
   const names = differing(...table.sides.map(({body}) => valueAt(body, path))), rest = names.length - from - MOST;
-  const lines = names.slice(from, from + MOST).map(name => {
-    const inner = [...path, name], line = el("tr", {}, el("th", {scope: "row"}, nameOf(table, inner)), ...table.sides.map(side => takerOf(table, inner, side)));
-    table.paths.set(line, inner);
-    return line;
-  });
+  const lines = names.slice(from, from + MOST).map(name => lineOf(table, [...path, name]));
   if (rest <= 0) return lines;
   const add = () => {
     more.replaceWith(...linesOf(table, path, from + MOST));

@@ -36,7 +36,8 @@ function show(...children) {
 function begin(text, limit) {
   const mine = view, ended = new AbortController(), ifHere = act => (...given) => (mine === view ? act(...given) : undefined);
   const work = {text, limit, signal: ended.signal, stop: () => ended.abort(), isHere: () => mine === view, isLate: false};
-  const quiet = () => Object.assign(work, {text: ""}), end = () => mine.works.delete(work), beforeLeft = whenLeft => Object.assign(mine, {whenLeft});
+  const quiet = () => Object.assign(work, {text: ""}), end = () => mine.works.delete(work);
+  const beforeLeft = whenLeft => Object.assign(mine, {whenLeft});
   mine.works.add(work);
   return Object.assign(work, {show: ifHere(show), tell: ifHere(tell), go: ifHere(goTo), again: ifHere(again), quiet, beforeLeft, end});
 }
@@ -56,7 +57,11 @@ function stopAll() {
 
 /** Does a work of the view, with a sign and a way to stop it where it takes long. */
 async function perform(text, doing, failed, limit) {
-  const work = begin(text, limit), beLate = () => Object.assign(work, {isLate: true}) && drawSign(), late = setTimeout(beLate, PATIENCE);
+  const work = begin(text, limit);
+  const late = setTimeout(() => {
+    work.isLate = true;
+    drawSign();
+  }, PATIENCE);
   try {
     await doing(work);
   } catch (error) {
@@ -112,13 +117,14 @@ export const markSaved = (...fields) => fields.forEach(one => Object.assign(one,
 
 /** Asks whether what is typed may be lost, and goes on to an address if so. */
 function askToLeave(wanted) {
-  const dialog = placed("leaving"), close = act => event => [event.preventDefault(), dialog.close(), act()];
+  const dialog = placed("leaving");
   const leave = () => {
+    dialog.close();
     placed("view").replaceChildren();
     leaveFor(wanted);
   };
-  const stay = el("button", {type: "button", click: close(() => {}), autofocus: ""}, "Stay here");
-  const lose = el("button", {type: "button", click: close(leave)}, "Leave and lose it");
+  const stay = el("button", {type: "button", click: () => dialog.close(), autofocus: ""}, "Stay here");
+  const lose = el("button", {type: "button", click: leave}, "Leave and lose it");
   dialog.replaceChildren(el("p", {}, "What you typed here isn't saved."), actions(stay, " ", lose));
   if (!dialog.open) dialog.showModal();
 }

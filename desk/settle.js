@@ -103,8 +103,8 @@ function choosing(names, pair, draw) {
     fields.forEach((field, at) => Object.assign(field, {selectedIndex: pair[at]}));
     draw();
   };
-  const fieldOf = at => el("select", {change: choose(at)}, ...names.map((name, place) => el("option", place === pair[at] ? {selected: ""} : {}, name)));
-  const fields = [0, 1].map(fieldOf);
+  const optionOf = at => (name, place) => el("option", place === pair[at] ? {selected: ""} : {}, name);
+  const fields = [0, 1].map(at => el("select", {change: choose(at)}, ...names.map(optionOf(at))));
   return el("p", {class: "choice"}, ...fields.map((field, at) => el("label", {}, at ? "with " : `Of ${names.length} versions compare `, field)));
 }
 
@@ -119,8 +119,8 @@ function comparing({live, bodies, kindOf, base}, area, take) {
     const sides = el("div", {class: "sides"}, ...two.map(leaf => side(leaf, bodies.get(leaf), kindOf(leaf), beforeOf(leaf), take)));
     const members = two.length > 1 ? memberTable(two.map(leaf => ({body: bodies.get(leaf), name: nameOf(leaf)})), against, area) : null;
     mark = members?.mark ?? mark;
-    const titles = [el("h3", {}, "Member by member"), el("p", {class: "proposal"}, `A press takes a value into the merged body. Marked are changes to ${marked}.`)];
-    place.replaceChildren(sides, ...(members ? [...titles, el("div", {class: "wide"}, members.made)] : []));
+    const how = el("p", {class: "proposal"}, `A press takes a value into the merged body. Marked are changes to ${marked}.`);
+    place.replaceChildren(sides, ...(members ? [el("h3", {}, "Member by member"), how, el("div", {class: "wide"}, members.made)] : []));
   };
   draw();
   area.addEventListener("input", () => mark());
@@ -165,7 +165,8 @@ export async function settle(page, db, id, typed) {
     markSettled(db, id);
     return page.show(heading("Nothing to settle"), el("p", {}, link(id, db, "document", id), ` has ${found.length} version(s).`), goingOn(db, id));
   }
-  const live = found.length ? found : leaves.slice(0, 1), bodies = new Map(live.map(leaf => [leaf, bodyOf(leaf)])), kindOf = leaf => kinds[leaves.indexOf(leaf)];
+  const live = found.length ? found : leaves.slice(0, 1), bodies = new Map(live.map(leaf => [leaf, bodyOf(leaf)]));
+  const kindOf = leaf => kinds[leaves.indexOf(leaf)];
   const base = await ancestorOf(page, db, id, found), {body, touching} = merge(base ? bodyOf(base) : UNKNOWN, [...bodies.values()]);
   const ancestor = base ? el("details", {}, el("summary", {}, `their common ancestor ${shortRev(base._rev)}`), code(bodyOf(base))) : "";
   const kept = [el("p", {class: "proposal"}, "This is what you typed before. Changes made since then are not in it.")];
