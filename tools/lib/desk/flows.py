@@ -60,8 +60,8 @@ def check_costs(place: Place, desk: Desk) -> None:
     before = len(place.requests())
     desk.run(FLOWING, ["flow"], COUNT)
     desk.find("[role=status]", f"{COUNT} found among {2 * COUNT} documents")
-    asked = sorted(line.split()[1].partition("?")[0] for line in place.requests()[before:])
-    compare("flow: what the list costs", sorted(["/flow", "/flow/_changes", "/flow/_changes", *[f"/flow/{name}" for name in IDS]]), asked)
+    cost = ["/flow", "/flow/_changes", "/flow/_changes", *[f"/flow/{name}" for name in IDS]]
+    compare("flow: what the list costs", cost, place.paths_since(before, "GET /flow", len(cost)))
     desk.forget("flow")
     desk.go()
     desk.slow(20)

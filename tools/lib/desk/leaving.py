@@ -6,6 +6,8 @@ from lib.desk.page import ENTER, ESCAPE, Desk
 from lib.desk.place import BOTH, Place, conflicting, revision
 from lib.desk.scripts import LIVE, PRESSED
 
+# Views with something to press, and what they show.
+VIEWS = ["documents", "document/each", "settle/each", "edit/each", "new", "changes", "find", "access", "local/phone"]
 THREE = {f"2-{name}": {"v": name} for name in ["a2", "b2", "c2"]}
 
 
@@ -36,6 +38,37 @@ def check_left_for_another(place: Place, desk: Desk) -> None:
     desk.press_button("Settle")
     desk.find("main p", "is deleted")
     compare("left: what is on the screen is settled", [THREE, 1], [place.living("left", "three"), len(place.living("left", "week"))])
+
+
+def check_each_view(place: Place, desk: Desk) -> None:
+    """Each view that is left while the server hangs: nothing of it can be pressed or typed in."""
+    conflicting(place, "each", "left")
+    for name in VIEWS:
+        desk.go("left", *name.split("/"))
+        compare(f"left: there is something in {name}", True, desk.run(LIVE) != [])
+        with place.stopped():
+            desk.move("left", "document", "elsewhere")
+            compare(f"left: what of {name} is live", [], desk.run(LIVE))
+
+
+def check_stopped_while_settling(place: Place, desk: Desk) -> None:
+    """A settle that is stopped before the server replies: what was typed stays, no version goes, and it can be made again."""
+    conflicting(place, "halted", "left")
+    desk.go("left", "settle", "halted")
+    desk.retype("textarea", '{"typed": 1}')
+    with place.stopped():
+        desk.press_button("Settle")
+        desk.find("#waiting", "waiting for the server", seconds=5)
+        desk.press(ESCAPE)
+        desk.find("#told", "whether it made the change isn't known")
+    place.settle_down()
+    living = place.living("left", "halted")
+    compare("stopped: the loser lives, and what was typed stays", [BOTH["2-a2"], '{"typed": 1}'], [living.get("2-a2"), desk.find("textarea").value()])
+    desk.press_button("Settle")
+    desk.find("#told", "409")
+    desk.press_button("Settle")
+    desk.find("h2", "Settled")
+    compare("stopped: what lives once it was made again", [{"typed": 1}], list(place.living("left", "halted").values()))
 
 
 def check_left_while_settling(place: Place, desk: Desk) -> None:
@@ -92,6 +125,13 @@ def check_waiting(place: Place, desk: Desk) -> None:
             compare(f"waiting: no sign once it was stopped by {way}", "", desk.find("#waiting").shown())
         desk.press_button("Load again")
         desk.find(f"table.{view} a", "waiting")
+    desk.forget("left")
+    with place.stopped():
+        desk.move("left")
+        desk.find("p.progress button", "Stop")
+        desk.find("[role=status]", "so far")
+        desk.press(ESCAPE)
+        desk.find("[role=status]", "stopped at")
     desk.go("left", "edit", "waiting")
     desk.retype("textarea", '{"v": 2}')
     with place.stopped():
@@ -170,4 +210,5 @@ def check_query_kept(place: Place, desk: Desk) -> None:
     compare("query: it is there again", '{"selector": {"w": 2}, "limit": 3}', desk.find("textarea").value())
 
 
-CHECKS = [check_left_for_another, check_left_while_settling, check_late_replies, check_waiting, check_typed_text, check_query_kept]
+CHECKS = [check_left_for_another, check_each_view, check_left_while_settling, check_stopped_while_settling]
+CHECKS += [check_late_replies, check_waiting, check_typed_text, check_query_kept]

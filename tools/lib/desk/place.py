@@ -87,6 +87,15 @@ class Place:
         """Returns the requests that write."""
         return [line for line in self.requests() if line.startswith(("PUT", "POST", "DELETE"))]
 
+    def paths_since(self, before: int, start: str, count: int) -> list[str]:
+        """Returns the paths, sorted, of the requests since then that begin so, once there are as many as these, or soon."""
+        for _ in range(100):
+            asked = [line.split()[1].partition("?")[0] for line in self.requests()[before:] if line.startswith(start)]
+            if len(asked) >= count:
+                break
+            time.sleep(0.05)
+        return sorted(asked)
+
     @contextlib.contextmanager
     def stopped(self) -> Iterator[None]:
         """Has the server's process hang, and go on at the end."""

@@ -72,8 +72,8 @@ def check_list_keeps_its_place(place: Place, desk: Desk) -> None:
     now = [name for name in left if name not in ("s30", "s40")] + ["new"]
     desk.find("[role=status]", f"{len(now)} found among {COUNT + 1} documents")
     compare("list: what has left it, and what came", now, [cells[0] for cells in desk.run(CELLS, "table.conflicts")])
-    asked = sorted(line.split()[1].partition("?")[0] for line in place.requests()[before:])
-    compare("list: what it cost to look again", ["/sitting", "/sitting/_changes", "/sitting/new", "/sitting/s30", "/sitting/s40"], asked)
+    cost = ["/sitting", "/sitting/_changes", "/sitting/new", "/sitting/s30", "/sitting/s40"]
+    compare("list: what it cost to look again", cost, place.paths_since(before, "GET /sitting", len(cost)))
     compare("list: it is where it was", [700, "s31"], desk.run("return [scrollY, document.activeElement.textContent]"))
     desk.press_button("Look again")
     desk.find("[role=status]", f"{len(now)} found among {COUNT + 1} documents")
