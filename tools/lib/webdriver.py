@@ -44,7 +44,7 @@ class Element:
         """Returns what a reader sees; white space is collapsed."""
         return self.ask("GET", "/text")
 
-    def shown(self):
+    def shown(self) -> str:
         """Returns the text that is there, seen or not."""
         return self.ask("GET", "/property/textContent")
 
@@ -129,12 +129,12 @@ class Browser:
         actions = [{"type": kind, "value": key} for key in keys for kind in ("keyDown", "keyUp")]
         self.ask("POST", "/actions", {"actions": [{"type": "key", "id": "keys", "actions": actions}]})
 
-    def chord(self, *keys):
+    def chord(self, *keys: str) -> None:
         """Presses keys together, the first one first."""
         actions = [{"type": "keyDown", "value": key} for key in keys] + [{"type": "keyUp", "value": key} for key in reversed(keys)]
         self.ask("POST", "/actions", {"actions": [{"type": "key", "id": "keys", "actions": actions}]})
 
-    def slow(self, latency):
+    def slow(self, latency: int) -> None:
         """Has each request wait for so many milliseconds more."""
         self.emulate("Network.enable")
         self.emulate("Network.emulateNetworkConditions", offline=False, latency=latency, downloadThroughput=-1, uploadThroughput=-1)

@@ -1,11 +1,12 @@
 """Makes rows for the desk's modules, and works out in plain python what has to come of them."""
+import random
 from typing import Any
 
 NAMES = ["a", "b", "c", "__proto__", "1", "2", "<b>", "\u202e"]
 SCALARS = [None, True, False, 0, 1, -7, 2**64 - 1, 2**64 - 2, -(2**63), "", "x", "<img src=x onerror=alert(1)>", "\u2028\u202e", "\U0001f600"]
 
 
-def some_value(chance, depth, near=None, object_only=False):
+def some_value(chance: random.Random, depth: int, near: Any = None, object_only: bool = False) -> Any:
     """Returns a value, perhaps one that differs from another one in some members."""
     if isinstance(near, dict) and (object_only or chance.random() < 0.6):
         changed = {name: value if chance.random() < 0.6 else some_value(chance, depth - 1, value) for name, value in near.items() if chance.random() < 0.85}
@@ -18,12 +19,12 @@ def some_value(chance, depth, near=None, object_only=False):
     return chance.choice(SCALARS)
 
 
-def some_text(chance):
+def some_text(chance: random.Random) -> str:
     """Returns a text of characters that paths mistake; it is no `.` and no `..`."""
     return "i" + "".join(chance.choice("a/?#%& +.:@!'()*~\"<>\\\u202e\u00e9\U0001f600") for _ in range(chance.randint(0, 8)))
 
 
-def is_same(one, other):
+def is_same(one: Any, other: Any) -> bool:
     """Tells whether two values are equal; python's own equality takes 1 for true."""
     if isinstance(one, dict) and isinstance(other, dict):
         return set(one) == set(other) and all(is_same(one[name], other[name]) for name in one)
@@ -43,13 +44,13 @@ class Unknown:
     """Stands for an ancestor that isn't known."""
 
 
-def member(value, name):
+def member(value: Any, name: str) -> Any:
     if value is Unknown:
         return Unknown
     return value.get(name, Absent) if isinstance(value, dict) else Absent
 
 
-def merge_of(base, sides, path):
+def merge_of(base: Any, sides: list[Any], path: list[str]) -> tuple[Any, list[list[str]]]:
     """Returns what becomes of one value, and the paths below it that were changed in different ways."""
     candidates = sides if base is Unknown else [side for side in sides if not is_same(side, base)]
     changed = []
@@ -64,7 +65,7 @@ def merge_of(base, sides, path):
     return {name: value for name, (value, _) in merges.items() if value is not Absent}, [one for _, paths in merges.values() for one in paths]
 
 
-def merged(base, sides):
+def merged(base: Any, sides: list[Any]) -> tuple[Any, list[list[str]]]:
     """Returns the merge of bodies behind an ancestor, or None where that isn't known, and the paths that touch."""
     return merge_of(Unknown if base is None else base, sides, [])
 
@@ -87,11 +88,11 @@ def with_value(body: dict[str, Any], path: list[str], value: Any) -> dict[str, A
 # ---- lines
 
 
-def some_lines(chance):
+def some_lines(chance: random.Random) -> str:
     return "\n".join(chance.choice("abc") for _ in range(chance.randint(1, 12)))
 
 
-def common_length(one, other):
+def common_length(one: list[str], other: list[str]) -> int:
     """Returns the length of a longest common part of two lists."""
     lengths = [0] * (len(other) + 1)
     for item in one:
@@ -105,7 +106,7 @@ def common_length(one, other):
 # ---- trees
 
 
-def some_leaves(chance):
+def some_leaves(chance: random.Random) -> list[dict[str, Any]]:
     """Returns the leaves of a random tree, best first, as `open_revs` shows them."""
     paths = [[f"1-{chance.randrange(100):02x}r{root}"] for root in range(chance.randint(1, 2))]
     for number in range(chance.randint(0, 8)):
@@ -121,18 +122,18 @@ def some_leaves(chance):
     return sorted(leaves, key=lambda leaf: ("_deleted" not in leaf, leaf["_revisions"]["start"], leaf["_rev"].split("-")[1]), reverse=True)
 
 
-def path_of(leaf):
+def path_of(leaf: dict[str, Any]) -> list[str]:
     """Returns the revisions that a leaf goes back to, itself first."""
     start = leaf["_revisions"]["start"]
     return [f"{start - back}-{name}" for back, name in enumerate(leaf["_revisions"]["ids"])]
 
 
-def revisions_of(leaves):
+def revisions_of(leaves: list[dict[str, Any]]) -> dict[str, str | None]:
     """Returns the parent of each revision, None of a root."""
     return {one: parent for path in map(path_of, leaves) for one, parent in zip(path, path[1:] + [None])}
 
 
-def ancestor_of(leaves):
+def ancestor_of(leaves: list[dict[str, Any]]) -> str | None:
     """Returns the newest revision that all leaves go back to, or None."""
     common = set.intersection(*(set(path_of(leaf)) for leaf in leaves))
     return max(common, key=lambda one: int(one.split("-")[0]), default=None)
