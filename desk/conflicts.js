@@ -5,7 +5,7 @@ import {el, heading, link, megabytes, placeOf, revsOf, row, table} from "./eleme
 import {button, failure} from "./page.js";
 
 /** How many changes are requested at once, how many documents first, and how often new rows are drawn, in milliseconds. */
-const MOST = 500, FEW = 4, PACE = 50;
+const MOST = 500, FEW = 4, PACE = 100;
 
 // ---- what was found, until the page is loaded again
 

@@ -4,7 +4,7 @@ import os
 from lib.checks import compare
 from lib.desk.page import Desk
 from lib.desk.place import Place, revision
-from lib.desk.scripts import FLOWING, PLAIN
+from lib.desk.scripts import FLOWING, PLAIN, PROGRESS
 
 COUNT, TRIES = 300, 5
 IDS = [f"f{number:03}" for number in range(COUNT)]
@@ -64,13 +64,10 @@ def check_costs(place: Place, desk: Desk) -> None:
     compare("flow: what the list costs", cost, place.paths_since(before, "GET /flow", len(cost)))
     desk.forget("flow")
     desk.go()
-    desk.slow(20)
-    desk.move("flow")
-    desk.find("[role=status]", f" of {2 * COUNT} documents so far")
-    desk.find("table.conflicts a", "f")
-    told = desk.run("const {max, value} = document.querySelector('progress'); return [max, value > 0 && value < max]")
-    compare("flow: how far it is", [2 * COUNT, True], told)
-    desk.slow(0)
+    told = desk.run(PROGRESS, "flow")
+    between = [(text, most, value) for text, most, value in told if 0 < value < most]
+    compare("flow: it says how far it is", True, len(between) > 2 and all(f"among {value} of {2 * COUNT} documents so far" in text for text, _, value in between))
+    compare("flow: what is told of all", {2 * COUNT}, {most for _, most, _ in between})
 
 
 CHECKS = [check_flowing, check_costs]

@@ -195,3 +195,21 @@ while (performance.now() - begun < 50000) {
 }
 return 50000;
 """
+
+# Opens the list of conflicts of a database, and returns what it says of how far it is, until it is whole.
+PROGRESS = """
+const told = [];
+return new Promise(done => {
+  const look = () => {
+    const text = document.querySelector('#view [role=status]')?.textContent ?? '', bar = document.querySelector('#view progress');
+    if (bar && text) told.push([text, bar.max, bar.value]);
+    if (!text.endsWith(' documents')) return;
+    observer.disconnect();
+    done(told);
+  };
+  const observer = new MutationObserver(look);
+  observer.observe(document.querySelector('#view'), {childList: true, subtree: true});
+  location.hash = '#/' + args[0];
+  setTimeout(() => done(told), 20000);
+});
+"""
