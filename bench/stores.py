@@ -19,7 +19,7 @@ with open(f"{TOP}/crates/tables/src/create.rt", encoding="utf-8") as code:
     TABLES = [re.sub(r"\\\n\s*", "", text) for text in re.findall(r'"(CREATE TABLE (?:dbs|docs|revs) [^"]*)"', code.read())]
 
 # The program runs with the variable that its systemd unit sets.
-with open(f"{TOP}/examples/deploy/couchd@.service", encoding="utf-8") as unit:
+with open(f"{TOP}/package/couchd@.service", encoding="utf-8") as unit:
     VARIABLES = dict(line.removeprefix("Environment=").strip().split("=", 1) for line in unit if line.startswith("Environment="))
 
 

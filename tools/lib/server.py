@@ -2,7 +2,6 @@
 import argparse
 import contextlib
 import hashlib
-import hmac
 import json
 import os
 import queue
@@ -16,6 +15,7 @@ import threading
 import time
 
 from lib.checks import compare, find
+from lib.settings import token_of
 
 SECRET = "Jefe"
 ADMIN = "root"
@@ -56,11 +56,6 @@ def text_of(value):
 def first_revision(body):
     """Returns the revision that a first write of a body makes."""
     return "1-" + hashlib.md5(text_of([False, 0, "", body])).hexdigest()
-
-
-def token_of(secret, user):
-    """Returns the token that vouches for a user."""
-    return hmac.new(secret.encode(), user.encode(), hashlib.sha256).hexdigest()
 
 
 def proxy_lines(user):
