@@ -30,12 +30,12 @@ class Front:
             ("/etc/nginx/couchd.passwords", f"{self.room}/passwords"),
             ("server 127.0.0.1:5984;", f"server 127.0.0.1:{port};"),
         )
-        compare("nginx.conf: where it passes requests on", 2, text.count("http://couchd;"))
+        compare("nginx.conf: where it passes requests on", 3, text.count("http://$couchd_at;"))
         return text
 
-    def change(self, old, new):
-        """Replaces a piece of the configuration, and has nginx take it."""
-        path = f"{self.room}/nginx.conf"
+    def change(self, old, new, name="nginx.conf"):
+        """Replaces a piece of a file of the configuration, and has nginx take it."""
+        path = f"{self.room}/{name}"
         with open(path, encoding="utf-8") as file:
             text = file.read()
         compare(f"the configuration: {old}", 1, text.count(old))
@@ -59,6 +59,12 @@ def deployed(name, *changes):
         compare(f"examples/deploy/{name}: {old}", 1, text.count(old))
         text = text.replace(old, new)
     return text
+
+
+def put_map(room: str, name: str, *changes: tuple[str, str]) -> None:
+    """Puts a map of examples/deploy to where nginx.conf includes it."""
+    with open(f"{room}/couchd-{name}.map", "w", encoding="utf-8") as file:
+        file.write(deployed(f"{name}.map", *changes))
 
 
 def workers_of(process):

@@ -243,7 +243,11 @@ def free_port():
 
 
 def start_nginx(room, port, servers):
-    """Starts nginx in a folder of this user's, with the text of its servers, and returns its process once it listens at the port."""
+    """Starts nginx in a folder of this user's, with the text of its servers, and returns its process once it listens at the port.
+
+    What the text has in nginx's own folders is in this one.
+    """
+    servers = servers.replace("/var/log/nginx/", f"{room}/").replace("/etc/nginx/", f"{room}/")
     conf = f"{room}/nginx.conf"
     paths = "".join(f"{kind}_temp_path {room}/{kind}; " for kind in ["client_body", "proxy", "fastcgi", "uwsgi", "scgi"])
     with open(conf, "w", encoding="utf-8") as file:
