@@ -14,7 +14,7 @@ class Front:
 
     def __init__(self, room, users):
         self.room, self.users, self.port = room, users, free_port()
-        with open(f"{room}/passwords", "w", encoding="utf-8") as file:
+        with open(f"{room}/couchd.passwords", "w", encoding="utf-8") as file:
             file.writelines(f"{user}:{{PLAIN}}pw\n" for user in users)
         self.nginx = start_nginx(room, self.port, self.configuration())
 
@@ -27,7 +27,6 @@ class Front:
             ("listen 443 ssl;", f"listen 127.0.0.1:{self.port};"),
             ("ssl_certificate /etc/ssl/certs/couch.example.org.pem;", ""),
             ("ssl_certificate_key /etc/ssl/private/couch.example.org.key;", ""),
-            ("/etc/nginx/couchd.passwords", f"{self.room}/passwords"),
             ("server 127.0.0.1:5984;", f"server 127.0.0.1:{port};"),
         )
         compare("nginx.conf: where it passes requests on", 3, text.count("http://$couchd_at;"))
