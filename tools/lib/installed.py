@@ -127,7 +127,7 @@ sums() { sha256sum whole.db* >"$1"; ls -l --time-style=full-iso . | grep whole >
 sums one; try couchd check --file whole.db; sums two; cmp one two
 mkdir moved; cp whole.db whole.db-wal moved/; sqlite3 whole.db 'PRAGMA wal_checkpoint(TRUNCATE)' >reply
 sums one; try couchd check --file whole.db; sums two; cmp one two
-chmod 0444 whole.db; try couchd check --file whole.db; ln whole.db hard.db; try couchd check --file hard.db; ln -s whole.db soft.db; try couchd check --file soft.db
+chmod 0444 whole.db; try couchd check --file whole.db; ln whole.db hard.db; try couchd check --file hard.db; try couchd serve --secret Jefe --file hard.db --port 5987 --conns 1 root; ln -s whole.db soft.db; try couchd check --file soft.db
 : >empty.db; try couchd check --file empty.db; stat -c %s empty.db
 mkdir disk; mount -t tmpfs tmpfs disk; cp --no-preserve=mode whole.db disk/; mount -o remount,ro disk; try couchd check --file disk/whole.db; umount disk
 try couchd check --file nothing.db; try couchd check --file moved; try couchd check --file /dev/null; ln -s nothing.db loose.db; try couchd check --file loose.db
@@ -144,6 +144,7 @@ ANSWERS = """1  / couchd: file|couchd: check: whole.db: locked: a server or a pa
 0 sound / couchd: check: a copy is checked: ./ROOM/whole.db
 0 sound / couchd: check: a copy is checked: ./ROOM/whole.db
 0 sound / couchd: check: a copy is checked: ./ROOM/hard.db
+1  / couchd: file
 0 sound / couchd: check: a copy is checked: ./ROOM/whole.db
 5 unsound / couchd: check: a copy is checked: ./ROOM/empty.db
 0
@@ -172,18 +173,21 @@ def check_copies_of_files(place: Any) -> None:
 # ---- what the units let the programs do
 
 
-def allowed_calls() -> set[str]:
-    """Returns the calls of the system that the units allow, by what systemd says of its sets."""
+def allowed_by(place: Any, unit: str) -> tuple[set[str], set[str]]:
+    """Returns the calls of the system and the kinds of sockets that a unit allows, by what systemd says of its sets."""
     text = subprocess.run(["systemd-analyze", "syscall-filter", "--no-pager"], capture_output=True, text=True).stdout
     sets = {head: body.split() for head, body in re.findall(r"(?m)^(@[\w-]+)\n((?:^ .*\n)+)", re.sub(r"(?m)^ *#.*\n", "", text))}
 
     def members(name: str) -> set[str]:
-        found = set()
-        for one in sets[name]:
-            found |= members(one) if one.startswith("@") else {one}
-        return found
+        return set().union(*map(members, sets[name])) if name.startswith("@") else {name}
 
-    return members("@system-service") - members("@privileged") - members("@resources")
+    with open(f"{place.root}/lib/systemd/system/{unit}", encoding="utf-8") as file:
+        lines = file.read()
+    calls: set[str] = set()
+    for refused, names in re.findall(r"(?m)^SystemCallFilter=(~?)(.*)$", lines):
+        named = set().union(*map(members, names.split()))
+        calls = calls - named if refused else calls | named
+    return calls, set(re.search(r"(?m)^RestrictAddressFamilies=(.*)$", lines)[1].split())
 
 
 def check_syscalls(place: Any) -> None:
@@ -191,25 +195,24 @@ def check_syscalls(place: Any) -> None:
     if None in (find("strace"), find("systemd-analyze")):
         return
     settings, trace = settings_of(place), f"{DATA}/trace"
-    allowed, made, families = allowed_calls(), set(), set()
-    compare("calls that the units allow", True, len(allowed) > 200)
     place.traced = ["strace", "-f", "-qq", "-o", trace]
 
-    def take() -> None:
+    def take(unit: str) -> None:
         with open(place.root + trace, encoding="utf-8", errors="replace") as file:
             text = file.read()
-        made.update(re.findall(r"(?m)^\d+ +(?:<\.\.\. )?(\w+)[( ]", text))
-        families.update(re.findall(r"socket\((\w+)", text))
         os.remove(place.root + trace)
+        calls, families = allowed_by(place, unit)
+        made = set(re.findall(r"(?m)^\d+ +(?:<\.\.\. )?(\w+)[( ]", text)) - {"resumed", "unfinished"}
+        compare(f"{unit}: calls that it makes and allows", (True, True), (len(made) > 20, len(calls) > 200))
+        compare(f"{unit}: calls that it refuses", set(), made - calls)
+        compare(f"{unit}: sockets that it refuses", set(), set(re.findall(r"socket\((\w+)", text)) - families)
 
     settings |= {"COUCHD_COPY_DBS": "notes", "COUCHD_SYNC_DBS": "notes", "COUCHD_SYNC_ADDRESS": f"127.0.0.1:{PORT}"}
     with serving_traced(place, settings, take):
-        for name in ("couchd-copy@", "couchd-sync@", "couchd-status@"):
-            started(place, f"{name}.service", str(PORT), settings).communicate(timeout=120)
-            take()
+        for name in ("couchd-copy@.service", "couchd-sync@.service", "couchd-status@.service"):
+            started(place, name, str(PORT), settings).communicate(timeout=120)
+            take(name)
     place.traced = []
-    compare("calls that the units refuse", set(), made - allowed - {"resumed", "unfinished"})
-    compare("sockets of the units", {"AF_INET"}, families)
 
 
 class serving_traced:
@@ -231,4 +234,4 @@ class serving_traced:
             os.kill(int(file.read().split()[0]), signal.SIGTERM)
         self.process.wait(60)
         os.rename(f"{self.place.root}{DATA}/trace-server", f"{self.place.root}{DATA}/trace")
-        self.take()
+        self.take("couchd@.service")
