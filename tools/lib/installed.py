@@ -48,7 +48,8 @@ def check_helps(place: Any) -> None:
     compare("help: words that it lacks", set(), {word for word in words if not any(f"--{word}" in text for text in texts.values())})
     lines = "\n".join(example_of(texts[name]) for name in ("couchd", "lab"))
     ran_well(place, "help: the examples of couchd and lab", f"{lines}\nsleep 0.3; kill -0 %1; kill %1; wait %1 || true")
-    served = example_of(texts["serve"]).strip() + " &"
+    # The script becomes the program: a signal to it is the program's.
+    served = example_of(texts["serve"]).strip() + ' &\nsleep 0.3; [ "$(readlink /proc/$!/exe)" = /usr/lib/couchd/couchd ]'
     waits = "couchd-client --secret Jefe --port 5984 --user root PUT /notes"
     ran_well(place, "help: the examples of serve, sync and check", "\n".join([served, waits, example_of(texts["sync"]), example_of(texts["check"])]))
 
