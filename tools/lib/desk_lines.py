@@ -22,6 +22,8 @@ from lib.place import mount, raise_loopback
 from lib.server import TOP
 
 USER, PASSWORD = "alice", "try"
+# The status where no overlay can be had.
+NO_MACHINE = 75
 REQUESTS = ["/_desk/", *(f"/_desk/{name}" for name in sorted(os.listdir(f"{TOP}/desk"))), "/_all_dbs", "/plans", "/plans/_all_docs?limit=50"]
 REQUESTS += ["/plans/_changes?style=all_docs", "/plans/week?revs=true&open_revs=all", "/plans/week", "/plans/_security", "/notes/_all_docs"]
 
@@ -69,8 +71,11 @@ def machine_in(room: str) -> str:
 
 def main() -> None:
     # The folder is its caller's, who removes it outside of the namespace: there nothing is mounted on it.
-    root = machine_in(sys.argv[1])
-    raise_loopback()
+    try:
+        root = machine_in(sys.argv[1])
+        raise_loopback()
+    except (subprocess.CalledProcessError, OSError):
+        sys.exit(NO_MACHINE)
     with open(f"{TOP}/docs/OPERATE.md", encoding="utf-8") as file:
         lines = lines_of(file.read())
     ending = "echo followed; read -r _; kill $(jobs -p); kill $(cat /run/nginx.pid); wait"
