@@ -40,6 +40,8 @@ class Overlay:
         mount("-t", "overlay", "overlay", "-o", f"lowerdir=/,upperdir={room}/upper,workdir={room}/work", self.root)
         for name in ("dev", "proc"):
             mount("--rbind", f"/{name}", f"{self.root}/{name}")
+        # What others leave in this folder meanwhile isn't there.
+        mount("-t", "tmpfs", "-o", "mode=1777", "tmpfs", f"{self.root}/tmp")
         if self.dpkg("--status", "adduser", "openssl", "python3").returncode != 0:
             raise OSError("no adduser, openssl or python3")
         # A couchd that this machine has is no first install.
