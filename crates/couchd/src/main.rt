@@ -3,10 +3,9 @@
 #![tactic(auto)]
 
 use command_line::{CommandFault, Plan, plan, words_of};
+use files::{check_file, serve_file, sync};
 use lab::play_input;
-use server::{check_file, serve_file};
 use std::process::ExitCode;
-use sync::sync;
 
 /// Reads the command line and does what it says. The status is 0 at the end; 1 for a fault, with
 /// `couchd: ` and `file`, `socket`, `line N` or `memory` on standard error; 2 where the command line

@@ -6,50 +6,14 @@ use crate::address::{print_address, socket_fault};
 use crate::listening::LoggedListener;
 use crate::many::serve_many;
 use crate::serving::{open_hub, serve};
-use crate::store_file::open_file;
 use command_line::ProgramFault;
 use hub::Hub;
-use sqlite::Alter;
-use sqlstore::SqlStore;
 use std::net::{Ipv4Addr, Net, OpenListener, SocketAddr, TcpListener, TcpStream};
 use std::time::{Clock, Duration};
 use store::Store;
 
 /// How many seconds a read or a write of a connection may wait.
 const PATIENCE: u64 = 30;
-
-/// Serves the store in a file, which is opened, or made, before the port is bound. At most so many
-/// megabytes of its pages are kept in memory.
-pub fn serve_file(
-    rt: &HostRuntime,
-    secret: &str,
-    admins: &[String],
-    path: &str,
-    port: u16,
-    conns: u32,
-    at_once: u32,
-    megabytes: u32,
-) -> Result<u8, ProgramFault>
-    ensures { IfOk result (λ status. status ≡ 0) }
-{
-    let store = open_file(rt, path, megabytes)?;
-    serve_tables(rt, secret, admins, store, port, conns, at_once)
-}
-
-/// Serves a store over tables, whatever files these stand on.
-fn serve_tables<S: Alter + Drop>(
-    rt: &HostRuntime,
-    secret: &str,
-    admins: &[String],
-    store: SqlStore<S>,
-    port: u16,
-    conns: u32,
-    at_once: u32,
-) -> Result<u8, ProgramFault>
-    ensures { IfOk result (λ status. status ≡ 0) }
-{
-    serve_store(rt, secret, admins, store, port, conns, at_once)
-}
 
 /// Serves a store at a port of 127.0.0.1, or at a free one where the port is 0: so many connections, one
 /// after another where `at_once` is 1, else at most `at_once` at a time. Once it listens it prints

@@ -1,4 +1,4 @@
-//! Copies a database by a replication pass between two sides, each the store in a file or a server.
+//! Copies a database by a replication pass between two sides, each a store or a server.
 #![tactic(auto)]
 
 mod address;
@@ -8,7 +8,6 @@ mod ending;
 mod estimate;
 mod exchange_end;
 mod exchanging;
-mod files;
 mod information;
 mod limits;
 mod logged;
@@ -16,6 +15,7 @@ mod node_side;
 mod outcome;
 mod passing;
 mod persistence;
+mod planned;
 mod remote;
 mod side;
 mod sides;
@@ -26,12 +26,13 @@ mod writing;
 
 pub use exchange_end::ExchangeEnd;
 pub use exchanging::{exchange, make_exchange};
-pub use files::sync;
 pub use logged::Logged;
 pub use outcome::Outcome;
 pub use passing::sync_pass;
+pub use planned::{sync_addresses, sync_store, sync_stores};
 pub use remote::Remote;
 pub use side::Side;
 pub use sides::sync_sides;
+pub use terminal::ProgressLine;
 pub use watch::{Unwatched, Watch};
 pub use writing::write_logged;

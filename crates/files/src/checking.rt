@@ -8,8 +8,8 @@ ghost use Rattle.transactions.specs.Indexing.{IsIndexedStore};
 ghost use Rattle.file_check.specs.Checks.{IsSame};
 ghost use Rattle.file_check.specs.Verdicts.{AreAllKept};
 
+use crate::opening::{connect, file_fault, open_pair};
 use crate::page_cache::choose_pages;
-use crate::store_file::{connect, file_fault, open_pair};
 use command_line::ProgramFault;
 use file_check::{CheckFault, Counts, Finding, Verdict, check};
 use sqlite::{Alter, Connection, Unknown};
@@ -38,7 +38,16 @@ pub fn check_file(rt: &HostRuntime, path: &str, megabytes: u32) -> Result<u8, Pr
     }
     let pages = choose_pages(rt, path, megabytes);
     let files = open_pair(rt, path, Unknown)?;
-    let mut conn = connect(rt, files, pages)?;
+    let conn = connect(rt, files, pages)?;
+    check_tables(rt, conn)
+}
+
+/// Checks the store that the tables of a connection hold as `check_store` does, and closes it.
+fn check_tables<S: Alter + Drop>(rt: &HostRuntime, conn: Connection<S>) -> Result<u8, ProgramFault>
+    ensures status { IfOk result (λ status. (status ≡ 0) ⊎ (status ≡ 5)) }
+    ensures faults { IfErr result (λ fault. (fault ≡ ProgramFault.File) ⊎ (fault ≡ ProgramFault.Memory)) }
+{
+    let mut conn = conn;
     check_store(rt, &mut conn)
 }
 

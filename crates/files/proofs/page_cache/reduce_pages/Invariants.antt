@@ -1,5 +1,5 @@
 use Rattle.std.proofs.Common.{◌≤◌}
-use Rattle.server.proofs.page_cache.reduce_pages.Given as goal
+use Rattle.files.proofs.page_cache.reduce_pages.Given as goal
 
 abbrev pub invariant-loop-pages : goal.invariant-loop-pages
 invariant-loop-pages l = l.pages ≤ l.wanted

@@ -1,4 +1,4 @@
-//! The sides of a pass that the words of a command line name, and the pass between them.
+//! The pass of a plan, between stores and servers.
 
 ghost use Rattle.std.specs.Prelude.{◌≡◌, IfOk, if◌then◌else◌, string_bytes};
 ghost use Rattle.sync.specs.Creating.{with_database};
@@ -15,60 +15,17 @@ use command_line::{ProgramFault, SyncPlan, SyncSide};
 use couch_json::Got;
 use node::Node;
 use repl::Replication;
-use server::{open_file, open_node};
-use sqlite::Alter;
-use sqlstore::SqlStore;
+use server::open_node;
 use std::alloc::Global;
 use std::io;
-use std::io::{Eprint, IsTerminal, Write};
+use std::io::{Eprint, Write};
 use std::net::{Net, TcpStream};
 use std::time::Clock;
 use store::Store;
 use world::World;
 
-/// Copies a database as the words of a command line say. The files are opened first, the source's and
-/// then the target's. Prints the report, and where standard error is a terminal it shows there how far
-/// the pass is, and what is left. Returns the program's status.
-pub fn sync(rt: &HostRuntime, plan: &SyncPlan) -> Result<u8, ProgramFault> {
-    let mut watch = ProgressLine::new(rt, rt.stderr().is_terminal());
-    match (&plan.source, &plan.target) {
-        (SyncSide::File(from), SyncSide::File(to)) => sync_files(rt, plan, from, to, &mut watch),
-        (SyncSide::File(path), SyncSide::Address(address))
-        | (SyncSide::Address(address), SyncSide::File(path)) => {
-            sync_file(rt, plan, path, address, &mut watch)
-        }
-        (SyncSide::Address(from), SyncSide::Address(to)) => {
-            sync_addresses(rt, plan, from, to, &mut watch)
-        }
-    }
-}
-
-/// Copies a database of the store in a file to one of that in another.
-fn sync_files(
-    rt: &HostRuntime,
-    plan: &SyncPlan,
-    from: &str,
-    to: &str,
-    watch: &mut ProgressLine<'_, HostRuntime>,
-) -> Result<u8, ProgramFault> {
-    let from = open_file(rt, from, plan.cache)?;
-    let to = open_file(rt, to, plan.cache)?;
-    sync_tables(rt, plan, from, to, watch)
-}
-
-/// Copies a database of a store over tables to one of another, whatever files these stand on.
-fn sync_tables<S: Alter + Drop>(
-    rt: &HostRuntime,
-    plan: &SyncPlan,
-    from: SqlStore<S>,
-    to: SqlStore<S>,
-    watch: &mut ProgressLine<'_, HostRuntime>,
-) -> Result<u8, ProgramFault> {
-    sync_stores(rt, plan, from, to, watch)
-}
-
 /// Copies a database of a store to one of another.
-fn sync_stores<R: Clock + Print + Eprint + AllocGlobal, S: Store + Drop>(
+pub fn sync_stores<R: Clock + Print + Eprint + AllocGlobal, S: Store + Drop>(
     rt: &R,
     plan: &SyncPlan,
     from: S,
@@ -113,32 +70,8 @@ fn both<S: Store + Drop>(alloc: Global, first: Node<S>, second: Node<S>) -> Got<
     Ok(nodes)
 }
 
-/// Copies a database between the store in a file and the server at an address.
-fn sync_file(
-    rt: &HostRuntime,
-    plan: &SyncPlan,
-    path: &str,
-    address: &str,
-    watch: &mut ProgressLine<'_, HostRuntime>,
-) -> Result<u8, ProgramFault> {
-    let store = open_file(rt, path, plan.cache)?;
-    sync_tables_with(rt, plan, store, address, watch)
-}
-
-/// Copies a database between a store over tables and the server at an address, whatever file these stand
-/// on.
-fn sync_tables_with<S: Alter + Drop>(
-    rt: &HostRuntime,
-    plan: &SyncPlan,
-    store: SqlStore<S>,
-    address: &str,
-    watch: &mut ProgressLine<'_, HostRuntime>,
-) -> Result<u8, ProgramFault> {
-    sync_store(rt, plan, store, address, watch)
-}
-
 /// Copies a database between a store and the server at an address, in the direction of the plan.
-fn sync_store<
+pub fn sync_store<
     'a,
     R: Net<Stream = TcpStream> + Clock + Print + Eprint + AllocGlobal,
     S: Store + Drop,
@@ -184,7 +117,7 @@ fn pull<R: Clock + Print + Eprint + AllocGlobal, P: Side + Drop, S: Store + Drop
 
 /// Copies a database of the server at an address to one of that at another. Of one server that serves one
 /// connection after another, two that stay open would hold each other up: at one address none is kept.
-fn sync_addresses<'a, R: Net<Stream = TcpStream> + Clock + Print + Eprint + AllocGlobal>(
+pub fn sync_addresses<'a, R: Net<Stream = TcpStream> + Clock + Print + Eprint + AllocGlobal>(
     rt: &'a R,
     plan: &SyncPlan,
     from: &'a str,

@@ -1,4 +1,4 @@
-//! The store in a file.
+//! Opens the store in a file.
 
 ghost use Rattle.std.specs.Prelude.{◌≡◌, ◌⊎◌, IfErr, IfOk, IsTrue, codes, false, true};
 ghost use Rattle.sqlite.specs.Files.{Finds, file_state, over_files};
@@ -6,7 +6,7 @@ ghost use Rattle.sqlite.specs.State.{HasCleanDisk};
 ghost use Rattle.sqlite.specs.WalFiles.{image_at};
 ghost use Rattle.sqlite_std_file.specs.File.{IsFresh, file_is_usable};
 ghost use Rattle.sqlstore.specs.Model.{fault_count, is_clean};
-ghost use Rattle.server.specs.StoreFile.{IsOpenedFrom, IsOpenedOver};
+ghost use Rattle.files.specs.Opening.{IsOpenedFrom, IsOpenedOver};
 
 use crate::page_cache::{FEW_PAGES, choose_pages};
 use command_line::ProgramFault;

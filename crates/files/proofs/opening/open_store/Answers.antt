@@ -4,7 +4,7 @@ use Rattle.sqlite_disk.specs.Events.{Event, replay}
 use Rattle.sqlite.specs.Files.{file_state}
 use Rattle.sqlite.specs.Recovery.{Image}
 use Rattle.sqlite.specs.Start.{FindsIn}
-use Rattle.server.proofs.store_file.open_store.Goals as goal
+use Rattle.files.proofs.opening.open_store.Goals as goal
 
 abbrev image : List ℕ → List ℕ → Image
 image log db = record { log = log; db = db }
