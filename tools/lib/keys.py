@@ -1,6 +1,6 @@
 """Says how values are ordered, which value a path reaches, and which bytes are the key of a value, in plain python.
 
-Order and paths are those of docs/PROFILE.md; the bytes are those of the layout in crates/values/data/layout.keys.
+Order and paths are those of docs/PROFILE.md; the bytes are those of the layout in crates/rows/data/layout.keys.
 """
 import re
 

@@ -1,6 +1,6 @@
 //! Tests of what has to fail: a refused allocation, a store, a disk, a reader and a writer that fail, also
-//! among many connections. All that a reply can show stands in rows of data, in the crates `values` and
-//! `requests`. Two functions say why a request is a 500.
+//! among many connections. All that a reply can show stands in rows of data, in the crate `rows`. Two functions
+//! say why a request is a 500.
 #![tactic(auto)]
 
 #[cfg(test)]

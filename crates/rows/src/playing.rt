@@ -1,67 +1,86 @@
-//! A program that plays files of rows.
+//! Playing the tables of a file.
 
 use crate::fault::RowsFault;
-use crate::listing::file_names;
-use crate::report::{PlayReport, RowText};
+use crate::file::{Row, RowFile, Table};
+use crate::kinds::Kind;
+use crate::nodes::Nodes;
+use crate::reports::Report;
+use crate::texts::text_of;
+use lab::LabStore;
 use std::alloc::Global;
-use std::env::Env;
-use std::fs::read_to_string;
-use std::process::ExitCode;
-use std::rt::Files;
 
-/// A program that plays rows: a file's ending says which kind its rows are of.
-pub trait Player {
-    /// Plays a file, and adds what came of its rows to the report.
-    fn play_file(
-        alloc: Global,
-        file: RowText<'_>,
-        report: &mut PlayReport,
-    ) -> Result<(), RowsFault>;
+/// A question, with what its file says above it.
+#[derive(Clone, Copy)]
+pub struct Asked<'a> {
+    /// Where answers lie.
+    pub alloc: Global,
+    /// The lines of the file's head.
+    pub head: &'a [String],
+    /// The rows above this one in its table.
+    pub above: &'a [Row],
+    /// What is asked.
+    pub question: &'a [u8],
 }
 
-/// Plays the files that the command line names or, where it names none, all files of the folder.
-///
-/// The status is 0 where each row is as its answer says, else 1, with what differs on standard error. A
-/// fault stands there behind the program's name.
-pub fn play_files<P: Player, R: Env + Files + Print + Eprint + AllocGlobal + Clone + Drop>(
-    rt: &R,
-    program: &str,
-) -> ExitCode {
-    let mut report = PlayReport::new(rt.alloc());
-    let played = play_all::<P, R>(rt, &mut report);
-    let _ = print!(rt; "{}", report.tables);
-    let _ = eprint!(rt; "{}", report.differences);
-    match played {
-        Ok(()) if report.differences.is_empty() => ExitCode::SUCCESS,
-        Ok(()) => ExitCode::FAILURE,
-        Err(fault) => {
-            let _ = eprintln!(rt; "{program}: {fault}");
-            ExitCode::FAILURE
-        }
+impl<'a> Asked<'a> {
+    /// Returns the question as text; one that is no text is empty.
+    pub fn text(&self) -> &'a str {
+        text_of(self.question)
     }
 }
 
-/// Plays the files.
-fn play_all<P: Player, R: Env + Files + AllocGlobal + Clone + Drop>(
-    rt: &R,
-    report: &mut PlayReport,
+/// Plays the rows of a file, whose nodes have stores of one kind.
+pub fn play_over<S: LabStore>(
+    kind: Kind,
+    name: &str,
+    file: &RowFile,
+    report: &mut Report,
 ) -> Result<(), RowsFault> {
-    for name in &file_names(rt)? {
-        let text = read_to_string(rt, name.as_str())?;
-        let file = RowText {
-            name: name.as_str(),
-            ending: ending_of(name.as_str()),
-            text: text.as_str(),
-        };
-        P::play_file(rt.alloc(), file, report)?;
+    let mut nodes = Nodes::<S>::new(report.alloc);
+    for table in &file.tables {
+        nodes.begin();
+        play_table(kind, name, &file.head, table, &mut nodes, report)?;
     }
     Ok(())
 }
 
-/// Returns the ending of a file's name, which is empty where the name has no dot.
-fn ending_of(name: &str) -> &str {
-    match name.rsplit_once('.') {
-        Some((_, ending)) => ending,
-        None => "",
+/// Plays the rows of a table.
+fn play_table<S: LabStore>(
+    kind: Kind,
+    name: &str,
+    head: &[String],
+    table: &Table,
+    nodes: &mut Nodes<S>,
+    report: &mut Report,
+) -> Result<(), RowsFault> {
+    for (place, row) in table.rows.iter().enumerate() {
+        let asked = Asked {
+            alloc: report.alloc,
+            head,
+            above: table.rows.get(..place).unwrap_or(&[]),
+            question: &row.question,
+        };
+        let mut got = String::new(report.alloc);
+        answer(kind, nodes, asked, &mut got)?;
+        report.compare(name, row, got.as_str(), table.is_wrong)?;
+    }
+    report.end(name, table.title.as_str())
+}
+
+/// Adds the answer to a question: of a refusal its word, of a fault its name.
+fn answer<S: LabStore>(
+    kind: Kind,
+    nodes: &mut Nodes<S>,
+    asked: Asked<'_>,
+    out: &mut String,
+) -> Result<(), RowsFault> {
+    match kind.answer(nodes, asked, out) {
+        Ok(()) | Err(RowsFault::Named) => Ok(()),
+        Err(RowsFault::Refused(word)) => {
+            out.clear();
+            out.push_str(word)?;
+            Ok(())
+        }
+        Err(fault) => Err(fault),
     }
 }
