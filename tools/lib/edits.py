@@ -37,7 +37,20 @@ def names_in(text: str | None) -> str:
     return "".join(word.split("::")[-1] for word in re.findall(r"(?<!')\b[\w:]+", text or ""))
 
 
-def function_at(path: str, text: str, first: int, last: int) -> Function | None:
+def module_of(path: str) -> str:
+    """Returns the module of a file below src/, as it stands before a name: nothing for the crate's root."""
+    inside = path.removeprefix("src/").removesuffix(".rt")
+    return "" if inside in ("lib", "main") else inside.replace("/", "::") + "::"
+
+
+def module_with(folder: str, name: str) -> str | None:
+    """Returns the module of a crate that defines a type, or None where no file does, or several do."""
+    paths = glob.glob(f"{folder}/src/**/*.rt", recursive=True)
+    found = [path for path in paths if re.search(rf"(?m)^(?:pub(?:\([^)]*\))? )?(?:struct|enum) {name}\b", read(path))]
+    return module_of(os.path.relpath(found[0], folder)) if len(found) == 1 else None
+
+
+def function_at(folder: str, path: str, text: str, first: int, last: int) -> Function | None:
     """Returns the function whose body has these places of a file, or None where more than one body may depend on them."""
     rows = text.split("\n")
     first, last = text.count("\n", 0, first), text.count("\n", 0, last)
@@ -45,7 +58,7 @@ def function_at(path: str, text: str, first: int, last: int) -> Function | None:
     if at is None or not path.startswith("src/"):
         return None
     indent, is_const, name = FUNCTION.match(rows[at]).groups()
-    block = impl_above(rows[:at]) if indent else ""
+    block = block_above(folder, path, rows[:at]) if indent else module_of(path)
     if is_const or block is None or indent not in ("", "    "):
         return None
     body = body_of(rows, at, indent)
@@ -53,15 +66,21 @@ def function_at(path: str, text: str, first: int, last: int) -> Function | None:
     if not is_inside or "-> impl" in " ".join(rows[at : body.start + 1]) or any(map(FUNCTION.match, rows[body.start + 1 : body.stop])):
         return None
     cycle = re.search(r"#\[cycle\((\w+)\)\]", " ".join(rows[max(at - 2, 0) : at]))
-    module = "" if path in ("src/lib.rt", "src/main.rt") else path[len("src/") : -len(".rt")].replace("/", "::") + "::"
-    return Function(module + block + name, module + block + (f"+{cycle[1]}" if cycle else name))
+    return Function(block + name, block + (f"+{cycle[1]}" if cycle else name))
 
 
-def impl_above(rows: list[str]) -> str | None:
-    """Returns the words that the prover puts before the functions of the impl that is open behind these rows."""
+def block_above(folder: str, path: str, rows: list[str]) -> str | None:
+    """Returns what the prover puts before the functions of the impl that is open behind these rows.
+
+    That of a trait is named after the module that it stands in, and one without a trait after the type's.
+    """
     opening = next((row for row in reversed(rows) if re.match(r"\S", row) and row[0] not in "})]#/"), "")
     found = BLOCK.match(opening)
-    return f"{names_in(found[2].partition('<')[0])}{names_in(found[1])}::" if found else None
+    if not found:
+        return None
+    name = names_in(found[2].partition("<")[0])
+    module = module_of(path) if found[1] else module_with(folder, name)
+    return None if module is None else f"{module}{name}{names_in(found[1])}::"
 
 
 def body_of(rows: list[str], at: int, indent: str) -> range:
@@ -105,7 +124,7 @@ class Edit:
         front = len(os.path.commonprefix([old, new]))
         back = len(os.path.commonprefix([old[front:][::-1], new[front:][::-1]]))
         at = text.index(old)
-        function = function_at(file, text, at + front, at + len(old) - back)
+        function = function_at(self.folder, file, text, at + front, at + len(old) - back)
         if function:
             self.functions.add(function)
         else:
