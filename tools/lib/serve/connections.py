@@ -158,6 +158,8 @@ def check_sizes(options: argparse.Namespace, file: str) -> None:
             with contextlib.suppress(OSError):
                 for start in range(0, len(sent), size):
                     made.sendall(sent[start : start + size])
+                    # The system would join pieces that follow at once.
+                    time.sleep(0.001)
             compare(f"pieces of {size} bytes", wanted, received(made, len(wanted) + 1))
     server.ended("pieces of any size")
 
