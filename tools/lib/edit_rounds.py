@@ -198,11 +198,17 @@ def try_round(crates: Crates, crate: str, edits: list[Edit]) -> dict[str, Verdic
 
 
 def try_alone(crates: Crates, crate: str, edit: Edit) -> Verdict:
-    """Tries one edit: by its functions where the prover knows them by these names, else by the whole crate."""
-    if not edit.changes_more:
+    """Tries one edit: by its functions where the prover knows them by these names, else by the whole crate.
+
+    One that changes more than bodies is refused, too, where a goal of a function that it changes is open.
+    """
+    if edit.functions:
         said = crates.check(crate, [edit], only([edit]))
-        if said.status != 2:
+        if not edit.changes_more and said.status != 2:
             return judge_alone(crate, edit, said)
+        verdict = judge_together(crate, edit, said.lines)
+        if verdict.kind == Kind.REFUSED:
+            return verdict
         edit.changes_more = True
     return judge_alone(crate, edit, crates.check(crate, [edit], []))
 
