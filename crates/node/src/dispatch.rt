@@ -3,7 +3,7 @@
 ghost use Rattle.std.specs.Prelude.{◌≡◌, ◌≢◌, ◌⊎◌, IfOk, IfErr, OnOk, Err};
 ghost use Rattle.couch_http.specs.Message.{message_of};
 ghost use Rattle.couch_http.specs.Reply.{fixed_reply, reply_of};
-ghost use Rattle.couch_http.specs.declared.fixed.Fixed.TheVariants.{NoRoom};
+ghost use Rattle.couch_http.specs.declared.fixed.Fixed.TheVariants.{NoRoom, Store as Broken};
 ghost use Rattle.couch_json.specs.Canonical.{canonical};
 ghost use Rattle.couch_json.specs.Lawful.{IsLawful};
 ghost use Rattle.store.specs.Calls.{ChangesWhole, GoesOn};
@@ -29,22 +29,27 @@ use std::alloc::Global;
 use store::{DbName, Store, StoreFault};
 use write::{Planned, WriteFault, apply};
 
-/// Replies to a request, whatever becomes of it.
+/// Replies to a request, whatever becomes of it. Where the store failed, puts down why.
 pub(crate) fn handle<S: Store>(
     alloc: Global,
     store: &mut S,
     auth: &Auth,
     routes: &Routes,
     request: &Request,
+    cause: &mut Option<StoreFault>,
 ) -> Response
     ensures step { S.is_honest store.new → IsStep auth.now (S.contents store.old) (message_of request.now)
         (HasCause S.Store store.old store.new) result (S.contents store.new) }
     ensures onward { GoesOn S.Store store.old store.new }
+    ensures cause { (cause.new ≡ cause.old) ⊎ (result ≡ fixed_reply (Broken request.now.last)) }
 {
     match reply(alloc, store, auth, routes, request) {
         Ok(reply) => reply,
         Err(EarlyEnd::Refused(refusal)) => refusal_reply(alloc, &refusal, request.last),
-        Err(EarlyEnd::Failed) => Response::fixed(Fixed::Store { last: request.last }),
+        Err(EarlyEnd::Failed(fault)) => {
+            *cause = Some(fault);
+            Response::fixed(Fixed::Store { last: request.last })
+        }
         Err(EarlyEnd::NoRoom) => Response::fixed(Fixed::NoRoom { last: request.last }),
     }
 }
@@ -165,7 +170,7 @@ fn create<S: Store>(store: &mut S, name: &DbName) -> Result<(), EarlyEnd>
     match store.create(name) {
         Ok(()) => Ok(()),
         Err(StoreFault::Memory) => Err(EarlyEnd::NoRoom),
-        Err(_) => Err(EarlyEnd::Failed),
+        Err(fault) => Err(EarlyEnd::Failed(fault)),
     }
 }
 
@@ -181,7 +186,7 @@ fn remove<S: Store>(store: &mut S, name: &DbName) -> Result<(), EarlyEnd>
     match store.remove(name) {
         Ok(()) => Ok(()),
         Err(StoreFault::Memory) => Err(EarlyEnd::NoRoom),
-        Err(_) => Err(EarlyEnd::Failed),
+        Err(fault) => Err(EarlyEnd::Failed(fault)),
     }
 }
 
@@ -207,7 +212,8 @@ fn stop_after(fault: &WriteFault) -> EarlyEnd
 {
     match fault {
         WriteFault::Memory => EarlyEnd::NoRoom,
-        _ => EarlyEnd::Failed,
+        WriteFault::Store(fault) => EarlyEnd::Failed(*fault),
+        _ => EarlyEnd::Failed(StoreFault::Failed),
     }
 }
 
