@@ -16,7 +16,7 @@ LINE = re.compile(r"couchd: (\w{3}, \d\d \w{3} \d{4} \d\d:\d\d:\d\d GMT): (.*)")
 FAULT = reply(500, {"error": "internal_server_error", "reason": "store"})
 END = "ended: all connections are served"
 # What stands in requests beside their methods and paths, and in no line.
-SECRETS = ["swordfish", "Basic", "Token", "mallory", "in=the-query"]
+SECRETS = ["swordfish", "Basic", "Token", "mallory", "revs=true"]
 
 
 def lines_of(what, server, since):
@@ -43,16 +43,17 @@ def compare_lines(what, server, since, wanted):
 def secretive(method, path, body=None, last=False):
     """Returns a request with a body, a query and headers that are nobody else's."""
     lines = [*proxy_lines("root"), "Authorization: Basic swordfish", "X-Mallory: mallory", *(["Connection: close"] if last else [])]
-    return message(method, f"{path}?conflicts=false&in=the-query" if method == "GET" else path, lines, body)
+    return message(method, f"{path}?revs=true" if method == "GET" else path, lines, body)
 
 
 def fill(options, file):
-    """Makes a file with a document whose body is then no JSON, and one that is whole."""
+    """Makes a file with a document and a design document whose bodies are then no JSON, and one that is whole."""
     server = Server(options, file, 1)
     with connected(server.port) as made:
-        asks("a database", made, request("PUT", "/db"), reply(201, {"ok": True}))
-        for name in ("a", "é".encode().hex(), "b"):
-            asks("a document", made, request("PUT", f"/db/{name}", {"v": 1}), reply(201, {"id": name, "ok": True, "rev": first_revision({"v": 1})}))
+        for name in ("db", "rules"):
+            asks("a database", made, request("PUT", f"/{name}"), reply(201, {"ok": True}))
+        for path, name in (("/db/a", "a"), ("/db/b", "b"), ("/rules/_design/d", "_design/d")):
+            asks("a document", made, request("PUT", path, {"v": 1}), reply(201, {"id": name, "ok": True, "rev": first_revision({"v": 1})}))
     server.ended("a file to be damaged")
     change(file, "UPDATE revs SET body = '-' WHERE id <> CAST('b' AS BLOB)")
 
@@ -67,25 +68,25 @@ def check_damaged(options, file, at_once):
         statuses = [status_of(made), status_of(made)]
         compare(f"{what}: the replies between", [200, 404], statuses)
         asks(what, made, secretive("GET", "/db/a"), reply(500, {"error": "internal_server_error", "reason": "store"}))
-        made.sendall(secretive("PUT", "/db/a", b'{"swordfish":1}'))
-        compare(f"{what}: a write on it", 500, status_of(made))
+        made.sendall(secretive("PUT", "/rules/x", b'{"swordfish":1}'))
+        compare(f"{what}: a write that asks the rules", 500, status_of(made))
         made.sendall(request("GET", "/db/%61?revs=true"))
         compare(f"{what}: the document by another path", 500, status_of(made))
         made.sendall(b"GET /db/a\r\n\r\n")
         compare(f"{what}: no request", 400, status_of(made))
         made.close()
-        asks(what, other, request("GET", "/_all_dbs"), reply(200, ["db"]))
-        asks(what, other, request("GET", "/db/a", user=None), reply(401, {"error": "unauthorized", "reason": "You are not authorized to access this db.", "rule": "db_member"}))
+        asks(what, other, request("GET", "/_all_dbs"), reply(200, ["db", "rules"]))
+        asks(what, other, request("GET", "/db/a", user=None), reply(401, {"error": "unauthorized", "reason": "You are not allowed to access this db.", "rule": "db_member"}))
         other.sendall(message("GET", "/db/a", [*proxy_lines("root"), "Connection: close"]))
         compare(f"{what}: the last one", 500, status_of(other))
-    lines = ["500 GET /db/a", "500 GET /db/a", "500 PUT /db/a", "500 GET /db/%61", "500 GET /db/a"]
+    lines = ["500 GET /db/a", "500 GET /db/a", "500 PUT /rules/x", "500 GET /db/%61", "500 GET /db/a"]
     compare_lines(what, server, since, [f"{line}: a damaged store" for line in lines] + [END])
 
 
 def check_full(options, file, at_once):
     """Where the file can't grow, each write that fails has its line."""
     what, since = f"a full disk, {at_once or 1} at once", time.time()
-    server = Server(options, file, 1, limit=200_000, at_once=at_once, more=["--log"])
+    server = Server(options, file, 1, limit=300_000, at_once=at_once, more=["--log"])
     failed = []
     with connected(server.port) as made:
         asks(what, made, request("PUT", "/db"), reply(201, {"ok": True}))
@@ -101,6 +102,17 @@ def check_full(options, file, at_once):
                 break
     compare(f"{what}: writes failed", True, len(failed) > 4)
     compare_lines(what, server, since, [*failed, END])
+
+
+def check_memory(options, file, at_once):
+    """A reply of 503 has no line: memory ran out, and nothing failed."""
+    what, since = f"no memory, {at_once or 1} at once", time.time()
+    server = Server(options, file, 1, memory=40 << 20, at_once=at_once, more=["--log"])
+    with connected(server.port) as made:
+        asks(what, made, request("PUT", "/db"), reply(201, {"ok": True}))
+        made.sendall(request("PUT", "/db/array", {"a": [{"b": 1}] * 300_000}))
+        compare(f"{what}: the reply", 503, status_of(made))
+    compare_lines(what, server, since, [END])
 
 
 def check_silent(options, file):
@@ -154,6 +166,7 @@ def check(options, folder):
     for at_once in (None, 9):
         check_damaged(options, file, at_once)
         check_full(options, f"{folder}/filled{at_once}.db", at_once)
+        check_memory(options, f"{folder}/memory{at_once}.db", at_once)
     check_silent(options, file)
     check_ends(options, folder)
     check_unread(options, file)
