@@ -1,9 +1,9 @@
 //! The way of a request through a node, from its headers to its reply.
 
-ghost use Rattle.std.specs.Prelude.{◌≡◌, ◌≢◌, ◌⊎◌, IfOk, IfErr, OnOk, Err};
+ghost use Rattle.std.specs.Prelude.{◌≡◌, ◌≢◌, ◌⊎◌, IfOk, IfErr, OnOk, Err, is_some, true};
 ghost use Rattle.couch_http.specs.Message.{message_of};
 ghost use Rattle.couch_http.specs.Reply.{fixed_reply, reply_of};
-ghost use Rattle.couch_http.specs.declared.fixed.Fixed.TheVariants.{NoRoom, Store as Broken};
+ghost use Rattle.couch_http.specs.declared.fixed.Fixed.TheVariants.{NoRoom};
 ghost use Rattle.couch_json.specs.Canonical.{canonical};
 ghost use Rattle.couch_json.specs.Lawful.{IsLawful};
 ghost use Rattle.store.specs.Calls.{ChangesWhole, GoesOn};
@@ -41,7 +41,8 @@ pub(crate) fn handle<S: Store>(
     ensures step { S.is_honest store.new → IsStep auth.now (S.contents store.old) (message_of request.now)
         (HasCause S.Store store.old store.new) result (S.contents store.new) }
     ensures onward { GoesOn S.Store store.old store.new }
-    ensures cause { (cause.new ≡ cause.old) ⊎ (result ≡ fixed_reply (Broken request.now.last)) }
+    ensures cause { (cause.new ≡ cause.old) ⊎ (result.status ≡ 500) }
+    ensures told { S.is_honest store.new → result.status ≡ 500 → is_some cause.new ≡ true }
 {
     match reply(alloc, store, auth, routes, request) {
         Ok(reply) => reply,

@@ -37,7 +37,7 @@ impl<S: Store + Drop> Model for Node<S> {
 }
 
 impl<S: Store + Drop> Node<S> {
-    ghost use Rattle.std.specs.Prelude.{◌≡◌, ◌⊎◌};
+    ghost use Rattle.std.specs.Prelude.{◌≡◌, ◌⊎◌, is_some, true};
     ghost use Rattle.couch_http.specs.Message.{message_of};
     ghost use Rattle.store.specs.Calls.{GoesOn};
     ghost use Rattle.node.specs.Answer.{answer};
@@ -87,6 +87,7 @@ impl<S: Store + Drop> Node<S> {
         ensures configuration { self.new.configuration ≡ self.old.configuration }
         ensures onward { GoesOn S.Store self.old.store self.new.store }
         ensures cause { (cause.new ≡ cause.old) ⊎ (result.status ≡ 500) }
+        ensures told { S.is_honest self.new.store → result.status ≡ 500 → is_some cause.new ≡ true }
     {
         handle(
             self.alloc,
