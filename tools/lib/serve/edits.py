@@ -109,7 +109,7 @@ def replies_after(options, copied, edit, asked, wanted):
         kinds.add("as before" if got == want else "500" if got == FAILED else "shown")
         if got not in (want, FAILED):
             compare(f"{edit}: {sent}", True, is_of_the_profile(*got))
-    server.ended(str(edit))
+    server.ended(str(edit), is_checked=False)
     return kinds
 
 
