@@ -618,12 +618,15 @@ def refuse_early(method, parts, query):
         raise Refusal(400, "bad_request", "query")
 
 
+BAD_JSON = (400, "bad_request", "JSON")
+
+
 def value_of(body):
     """Returns the value of a body, where there is one."""
     try:
         return json.loads(body) if body else None
     except json.JSONDecodeError:
-        raise Refusal(400, "bad_request", "JSON") from None
+        raise Refusal(*BAD_JSON) from None
 
 
 class Node:
@@ -639,12 +642,12 @@ class Node:
         asked = {name: values[0] for name, values in parse_qs(query).items()}
         try:
             refuse_early(method, parts, query)
-            status, value = self.work(user, method, parts, asked, value_of(body))
+            status, value = self.work(user, method, parts, asked, value_of(body), bool(body))
         except Refusal as refusal:
             status, value = refusal.status, refusal.value
         return status, text_of(value)
 
-    def work(self, user, method, parts, query, value):
+    def work(self, user, method, parts, query, value, has_body):
         name = parts[0]
         if name == "_all_dbs":
             return self.list_databases(user)
@@ -655,6 +658,8 @@ class Node:
             raise Refusal(404, "not_found", "Database does not exist.")
         if not database.is_member(user):
             raise denial(user, "You are not allowed to access this db.", "db_member")
+        if method in ("POST", "PUT") and not has_body:
+            raise Refusal(*BAD_JSON)
         if len(parts) == 1:
             return database.information(name)
         if parts[1] == "_security":
