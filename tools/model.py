@@ -1,8 +1,8 @@
 """Answers requests as docs/PROFILE.md says, in plain python: what fuzz_passes, disk_check, index_check and documents compare with.
 
 It was written from the page, and has nothing of the program. What it doesn't know it isn't asked: requests
-have lawful ids, and selectors and bodies of the shape that is asked for. A user is the text of a name, which
-may have roles (`User`), or None. A body and a reply are bytes, so no value is held by two.
+have lawful ids, and bodies of the shape that is asked for. Selectors and finds may have any shape. A user is the
+text of a name, which may have roles (`User`), or None. A body and a reply are bytes, so no value is held by two.
 """
 import hashlib
 import json
@@ -163,7 +163,7 @@ def sent_by(identifier, document):
     is_bad = document.get("_id", identifier) != identifier or "_rev" in document and not is_revision(revision)
     is_bad = is_bad or not isinstance(deleted, bool) or set(document) - set(body) - {"_id", "_rev", "_deleted", "_revisions"}
     is_design = identifier.startswith("_design/")
-    is_bad = is_bad or is_design and not isinstance(body.get("validate_doc_update", {}), dict)
+    is_bad = is_bad or is_design and fault_of(body.get("validate_doc_update", {}), is_rule=True) is not None
     is_bad = is_bad or is_design and not are_indexes(body.get("indexes", {}))
     if is_bad:
         raise Refusal(*BAD_DOCUMENT)
@@ -183,28 +183,84 @@ def path_sent(document):
     return [f"{len(names) - place}-{name}" for place, name in enumerate(names)], start
 
 
-# ---- databases
-
-
 # ---- selectors
 
 COMPARED = {
     "$eq": lambda value, other: value == other,
+    "$ne": lambda value, other: value != other,
     "$lt": lambda value, other: value < other,
     "$lte": lambda value, other: value <= other,
     "$gt": lambda value, other: value > other,
     "$gte": lambda value, other: value >= other,
     "$in": lambda value, others: value in others[1],
+    "$nin": lambda value, others: value not in others[1],
 }
 
 
 TYPES = {type(None): "null", bool: "boolean", int: "number", str: "string", list: "array", dict: "object"}
+LISTS = {"$and": all, "$or": any, "$nor": lambda truths: not any(truths)}
+DEEPEST = 32
+
+
+def is_whole(value):
+    return isinstance(value, int) and not isinstance(value, bool)
 
 
 def has_all(value, wanted):
     """Tells whether a value is a list with each of these, of which there are some."""
     found = [order_of(one) for one in value] if isinstance(value, list) else []
     return bool(wanted) and all(order_of(one) in found for one in wanted)
+
+
+def has_remainder(value, argument):
+    """Tells whether a value is a number with a remainder, where the quotient is rounded toward zero."""
+    divisor, remainder = argument
+    return is_whole(value) and (abs(value) % abs(divisor)) * (1 if value >= 0 else -1) == remainder
+
+
+# Of a value that is there.
+TESTED = {
+    "$type": lambda value, argument: TYPES[type(value)] == argument,
+    "$all": has_all,
+    "$size": lambda value, argument: isinstance(value, list) and len(value) == argument,
+    "$mod": has_remainder,
+}
+# Which arguments an operator takes that is no selector; `$sameAs` is a rule's alone.
+TAKEN = {
+    **dict.fromkeys(["$eq", "$ne", "$lt", "$lte", "$gt", "$gte"], lambda value: True),
+    **dict.fromkeys(["$in", "$nin", "$all"], lambda value: isinstance(value, list)),
+    "$exists": lambda value: isinstance(value, bool),
+    "$type": lambda value: isinstance(value, str) and value in TYPES.values(),
+    "$size": is_whole,
+    "$mod": lambda value: isinstance(value, list) and len(value) == 2 and all(map(is_whole, value)) and value[0] != 0,
+}
+
+
+def fault_of(selector, is_rule=False, depth=1):
+    """Returns the first fault of a selector in the order of its canonical text, or None: 'Argument', 'Operator' or 'Depth'."""
+    if not isinstance(selector, dict):
+        return "Argument"
+    if depth > DEEPEST:
+        return "Depth"
+    members = sorted(selector.items(), key=lambda member: member[0].encode())
+    return next(filter(None, (member_fault(name, argument, is_rule, depth) for name, argument in members)), None)
+
+
+def member_fault(name, argument, is_rule, depth):
+    """Returns the first fault of a member of a selector, or None."""
+    if name in LISTS:
+        if not isinstance(argument, list) or not argument:
+            return "Argument"
+        return next(filter(None, (fault_of(one, is_rule, depth + 1) for one in argument)), None)
+    if name in ("$not", "$elemMatch", "$allMatch"):
+        return fault_of(argument, is_rule, depth + 1)
+    if name == "$sameAs" and is_rule:
+        return None if is_path(argument) else "Argument"
+    if name.startswith("$"):
+        return "Operator" if name not in TAKEN else None if TAKEN[name](argument) else "Argument"
+    if not is_path(name):
+        return "Argument"
+    return fault_of(argument, is_rule, depth + 1) if isinstance(argument, dict) else None
 
 
 def is_true(selector, current, whole=None):
@@ -219,23 +275,46 @@ def is_true(selector, current, whole=None):
 
 def is_met(name, argument, current, whole):
     """Tells whether one member of a selector is true."""
-    if name == "$and":
-        return all(is_true(one, current, whole) for one in argument)
-    if name == "$or":
-        return any(is_true(one, current, whole) for one in argument)
+    if name in LISTS:
+        return LISTS[name](is_true(one, current, whole) for one in argument)
     if name == "$not":
         return not is_true(argument, current, whole)
     if name == "$exists":
         return bool(current) == argument
-    if name == "$type":
-        return bool(current) and TYPES[type(current[0])] == argument
-    if name == "$all":
-        return bool(current) and has_all(current[0], argument)
+    if name in TESTED:
+        return bool(current) and TESTED[name](current[0], argument)
+    if name in ("$elemMatch", "$allMatch"):
+        elements = current[0] if current and isinstance(current[0], list) else []
+        truths = [is_true(argument, [one], whole) for one in elements]
+        return any(truths) if name == "$elemMatch" else bool(truths) and all(truths)
     if name == "$sameAs":
         return bool(current) and [order_of(one) for one in values_at([argument], whole) or []] == [order_of(current[0])]
     if name in COMPARED:
         return bool(current) and COMPARED[name](order_of(current[0]), order_of(argument))
     return is_true(argument, values_at([name], current[0]) or [] if current else [], whole)
+
+
+def sorted_by(field):
+    """Returns the path and the direction of a field of a sort, or None where it has another form."""
+    field = {field: "asc"} if isinstance(field, str) else field
+    if not isinstance(field, dict) or len(field) != 1:
+        return None
+    ((path, direction),) = field.items()
+    return (path, direction) if is_path(path) and direction in ("asc", "desc") else None
+
+
+def is_sort(value):
+    """Tells whether a value orders a find: up to 8 fields, all in one direction."""
+    fields = [sorted_by(field) for field in value] if isinstance(value, list) else [None]
+    return len(fields) <= 8 and None not in fields and len({direction for _, direction in fields}) <= 1
+
+
+def is_find(value):
+    """Tells whether a value is the body of a find."""
+    if not isinstance(value, dict) or not {"selector"} <= set(value) <= {"selector", "sort", "limit", "skip"}:
+        return False
+    numbers = [value.get(name, 0) for name in ("limit", "skip")]
+    return fault_of(value["selector"]) is None and is_sort(value.get("sort", [])) and all(is_whole(one) and 0 <= one < 2**63 for one in numbers)
 
 
 def part_of(rows, query):
@@ -420,7 +499,9 @@ class Database:
 
     def find(self, asked):
         """Returns the documents that match a selector, in an order, in part: each document is looked at."""
-        sort = [(field, "asc") if isinstance(field, str) else next(iter(field.items())) for field in asked.get("sort", [])]
+        if not is_find(asked):
+            raise Refusal(*BAD_BODY)
+        sort = [sorted_by(field) for field in asked.get("sort", [])]
         places = self.places([field for field, _ in sort])
         is_down = bool(sort) and sort[0][1] == "desc"
         ids = [identifier for _, identifier in (reversed(places) if is_down else places)]
@@ -537,12 +618,15 @@ def refuse_early(method, parts, query):
         raise Refusal(400, "bad_request", "query")
 
 
+BAD_JSON = (400, "bad_request", "JSON")
+
+
 def value_of(body):
     """Returns the value of a body, where there is one."""
     try:
         return json.loads(body) if body else None
     except json.JSONDecodeError:
-        raise Refusal(400, "bad_request", "JSON") from None
+        raise Refusal(*BAD_JSON) from None
 
 
 class Node:
@@ -558,12 +642,12 @@ class Node:
         asked = {name: values[0] for name, values in parse_qs(query).items()}
         try:
             refuse_early(method, parts, query)
-            status, value = self.work(user, method, parts, asked, value_of(body))
+            status, value = self.work(user, method, parts, asked, value_of(body), bool(body))
         except Refusal as refusal:
             status, value = refusal.status, refusal.value
         return status, text_of(value)
 
-    def work(self, user, method, parts, query, value):
+    def work(self, user, method, parts, query, value, has_body):
         name = parts[0]
         if name == "_all_dbs":
             return self.list_databases(user)
@@ -574,6 +658,8 @@ class Node:
             raise Refusal(404, "not_found", "Database does not exist.")
         if not database.is_member(user):
             raise denial(user, "You are not allowed to access this db.", "db_member")
+        if method in ("POST", "PUT") and not has_body:
+            raise Refusal(*BAD_JSON)
         if len(parts) == 1:
             return database.information(name)
         if parts[1] == "_security":

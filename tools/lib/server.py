@@ -185,6 +185,7 @@ class Server:
     """A running server."""
 
     def __init__(self, options, file, conns, port=0, limit=None, memory=None, at_once=None, cache=None, more=()):
+        self.options, self.file = options, file
         self.port = port or options.port
         words = ["serve", "--secret", SECRET, "--file", file, "--port", str(self.port), "--conns", str(conns), ADMIN]
         if at_once is not None:
@@ -217,18 +218,28 @@ class Server:
             time.sleep(0.1)
         raise SystemExit("the server doesn't listen")
 
-    def ended(self, what):
-        """Compares how the server ended: with status 0, one line, and nothing on standard error."""
+    def ended(self, what, is_checked=True):
+        """Compares how the server ended: with status 0, one line, nothing on standard error, and a file that is sound, if that is checked."""
         status = self.process.wait(60)
         if self.line is None:
             self.line = self.lines.get(timeout=60)
         compare(f"{what}: the line", f"listening 127.0.0.1:{self.port}\n", self.line)
         compare(f"{what}: nothing more", "", self.lines.get(timeout=60))
         compare(f"{what}: how it ended", (0, []), (status, self.said()))
+        # A program that runs unproved would take minutes for it.
+        if is_checked and not self.options.port:
+            finds_sound(self.options, what, self.file)
 
     def said(self):
         """Returns the lines that the server, which has ended, printed on standard error."""
         return [line for line in self.process.stderr.read().decode().splitlines() if not line.startswith("couchd: unproved")]
+
+    def stopped(self, what):
+        """Stops the server, whatever it does, and compares what `couchd check` says of its file."""
+        self.process.send_signal(signal.SIGCONT)
+        self.process.terminate()
+        self.process.wait(60)
+        finds_sound(self.options, what, self.file)
 
 
 def finds_sound(options, what, file):

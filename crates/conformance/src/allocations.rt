@@ -1,5 +1,5 @@
 //! A refused allocation, whichever it is. `tools/allocations` runs these tests once for each; where none is
-//! refused, as in the gate, they say that the replies are the wanted ones.
+//! refused, as in the gate, they say that all is set up, and that the replies are the wanted ones.
 
 use crate::local_client::{DESIGN, node, request, root_request, store, store_in_tables};
 use couch_http::{Request, Response};
@@ -220,15 +220,16 @@ fn play<S: Store + Drop>(
     Ok(())
 }
 
-/// Prints why there is no first step.
+/// Prints why there is no first step, and fails.
 pub fn tell(rt: &HostRuntime, fail: Fail) -> Result<(), Fail> {
     let failed: Result<(), Fail> = Err(fail);
     let _status = failed.report(rt);
-    Ok(())
+    Err(Fail::from("no first step"))
 }
 
 /// Each reply is the wanted one or the 503, `feed` may answer `Memory`, and the same step again has the
-/// wanted reply. Where memory runs out before the first step, there is none.
+/// wanted reply. Where there is no first step, the test fails: only an allocation that is refused before it
+/// may be the cause.
 #[test]
 fn each_allocation(rt: HostRuntime) -> Result<(), Fail> {
     let alloc = rt.alloc();

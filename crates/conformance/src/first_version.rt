@@ -1,10 +1,10 @@
 //! Files of version 1, which are carried over where they are opened.
 
+use crate::allocations::tell;
 use crate::local_client::{node, reply_to, root_request};
 use sqlite::{Alter, Connection, MemStore};
 use sqlstore::{OpenFault, SqlStore};
 use std::alloc::Global;
-use std::process::Termination;
 use std::test::Fail;
 
 /// What the admin `root` writes: a declared index, and a document that has a row in it, of the key `[5]`.
@@ -82,19 +82,14 @@ fn each_allocation_of_carrying_over(rt: HostRuntime) -> Result<(), Fail> {
     let alloc = rt.alloc();
     let conn = match first_version(alloc) {
         Ok(conn) => conn,
-        Err(fail) => {
-            let failed: Result<(), Fail> = Err(fail);
-            let _status = failed.report(&rt);
-            return Ok(());
-        }
+        Err(fail) => return tell(&rt, fail),
     };
     let store = open_again(alloc, conn)?;
     match view_again(alloc, store) {
-        Ok(told) => assert_eq!(rt; told.as_str(), VIEW.1),
-        Err(fail) => {
-            let failed: Result<(), Fail> = Err(fail);
-            let _status = failed.report(&rt);
+        Ok(told) => {
+            assert_eq!(rt; told.as_str(), VIEW.1);
+            Ok(())
         }
+        Err(fail) => tell(&rt, fail),
     }
-    Ok(())
 }

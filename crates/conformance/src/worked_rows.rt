@@ -202,8 +202,7 @@ fn play<S: Store + Drop>(
     }
 }
 
-/// Plays a story over a store. Where memory runs out before its first step, there is none, and what failed
-/// is returned.
+/// Plays a story over a store. Where there is no first step, what failed is returned.
 fn try_story<S: Store + Drop>(
     rt: &impl Abort,
     alloc: Global,
@@ -219,7 +218,7 @@ fn try_story<S: Store + Drop>(
     }
 }
 
-/// Prints why there was no first step, where there was none.
+/// Prints why there was no first step, where there was none, and fails.
 fn tell_early(rt: &HostRuntime, early: Option<Fail>) -> Result<(), Fail> {
     match early {
         Some(fail) => tell(rt, fail),

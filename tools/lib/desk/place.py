@@ -48,9 +48,9 @@ class Place:
         return self
 
     def __exit__(self, *_: object) -> None:
-        for process in [self.nginx, self.server.process]:
-            process.terminate()
-            process.wait(60)
+        self.nginx.terminate()
+        self.nginx.wait(60)
+        self.server.stopped("the server of the desk")
         shutil.rmtree(self.room, ignore_errors=True)
 
     def ask(self, method: str, path: str, body: Any = None, user: str = ADMIN) -> tuple[int, Any]:

@@ -1,15 +1,17 @@
 """Files that somebody has edited."""
 import concurrent.futures
 import contextlib
-import json
 import os
 import shutil
 import sqlite3
+from typing import NamedTuple
 
 from lib.checks import compare
 from lib.serve.command_lines import compare_refusal, words_of
 from lib.serve.tables import change, rows_in
-from lib.server import ADMIN, PHRASES, Server, connected, first_revision, reply_of, request, text_of
+from lib.server import ADMIN, Server, connected, first_revision, reply_of, request, text_of
+from lib.shown_rows import shown_of
+from lib.store_rows import rows_of
 from model import Node
 
 FAILED = 500, text_of({"error": "internal_server_error", "reason": "store"})
@@ -38,22 +40,59 @@ WRITING = [
 ]
 # What a cell is edited to, where it is something else.
 CELLS = {"INTEGER": [0, 1, 2, -1, 2**62, 2**63 - 1], "TEXT": ["", "-", "null", "{}", '{"v":2}', "1-x"], "BLOB": [b"", b"\0", b"\xff", b"a"]}
-# Which replies an edit of a cell allows, by its column. 'shown' are replies that name another database, document or
-# index than before, or what they hold now. A 500 is the reply where rows no longer agree with one another.
-SHOWN = {"as before", "shown"}
-DAMAGED = SHOWN | {"500"}
-ALLOWED = {
-    "meta.version": {"as before"},
-    **dict.fromkeys(["dbs.num", "dbs.name", "dbs.sec", "dbs.seq"], DAMAGED),
-    **dict.fromkeys(["docs.db", "docs.id", "docs.seq", "docs.winner", "docs.del"], DAMAGED),
-    **dict.fromkeys(["revs.db", "revs.id", "revs.n", "revs.hash", "revs.parent", "revs.held", "revs.del", "revs.body"], DAMAGED),
-    **dict.fromkeys(["locals.db", "locals.id"], SHOWN),
-    **dict.fromkeys(["locals.n", "locals.body"], DAMAGED),
-    **dict.fromkeys(["decls.num", "decls.db", "decls.ddoc", "decls.name"], SHOWN),
-    "decls.fields": DAMAGED,
-    "entries.decl": SHOWN,
-    **dict.fromkeys(["entries.k", "entries.id"], DAMAGED),
+# The same, as lib/serve/edits.rows names them, and pages by the names that it has for them.
+SPELLED = {0: "0", 1: "1", 2: "2", -1: "-1", 2**62: "2^62", 2**63 - 1: "2^63-1", "": "''", b"": "''", b"\0": "\\0", b"\xff": "\\xff", b"a": "a"}
+PAGE_NAMES = ["info", "security", "all_docs", "changes", "local", "view", "d", "a", "b", "c"]
+NAMES = ["all_dbs", *(f"{prefix}{name}" for prefix in ("", "e/") for name in PAGE_NAMES)]
+ALL = {"db/*": set(PAGE_NAMES), "e/*": {f"e/{name}" for name in PAGE_NAMES}}
+# What a write replies beside a 500: without its database, without the document that it follows, and without the rule.
+MADE = {one: {"id": one, "ok": True, "rev": first_revision(body)} for one, body in (("n", {"v": 4}), ("m", {"bad": 1}), ("a", {"v": 9}))}
+OTHERWISE = {
+    "500": FAILED,
+    "none": (404, text_of({"error": "not_found", "reason": "Database does not exist."})),
+    "conflict": (409, text_of({"error": "conflict", "reason": "Document update conflict."})),
+    "bare": (201, text_of([MADE["n"], MADE["m"], MADE["a"]])),
+    "unruled": (201, text_of([MADE["n"], MADE["m"], {"error": "conflict", "id": "a", "reason": "Document update conflict."}])),
 }
+ROWS_FILE = os.path.join(os.path.dirname(__file__), "edits.rows")
+
+
+class Damage(NamedTuple):
+    """What is a 500 where a cell was edited: the pages that are read before the writes and after them; and the replies to the writes."""
+
+    before: set[str]
+    after: set[str]
+    writes: list[str]
+
+
+UNDAMAGED = Damage(set(), set(), ["."] * len(WRITING))
+
+
+def pages_in(text):
+    """Returns the pages that a row names."""
+    return set().union(*(ALL.get(one, {one}) for one in text.split() if one != "-"))
+
+
+def damages():
+    """Returns what edits.rows says, by the column, the name of the row and the value."""
+    found = {}
+    with open(ROWS_FILE, encoding="utf-8") as file:
+        lines = [line for line in file.read().splitlines() if not line.startswith("#")]
+    for line in lines:
+        column, rows, values, pages, writes = line.split(" | ")
+        before, _, after = pages.partition(", then ")
+        damage = Damage(pages_in(before), pages_in(after or before), UNDAMAGED.writes if writes == "-" else writes.split())
+        found |= {(column, row, value): damage for row in rows.split() for value in values.split()}
+    return found
+
+
+def name_of(table, cells):
+    """Returns the name of a row, by its cells without its number."""
+    named = {"dbs": lambda name, *_: name, "docs": lambda _, id, *__: id, "locals": lambda *_: b"l", "decls": lambda *_: b"v", "entries": lambda _, __, id: id}
+    if table == "revs":
+        _, id, number, name, *_ = cells
+        return f"{name_of('docs', [0, id])}/{number}-{name[0]}"
+    return named[table](*cells).decode().removeprefix("_design/")
 
 
 def replies_to(server, asked):
@@ -93,30 +132,36 @@ def edit_cell(file, table, column, row, new):
         return False
 
 
-def is_of_the_profile(status, text):
-    """Tells whether a reply is one that a server gives: a status, and JSON in its canonical form."""
-    try:
-        return status in PHRASES and text_of(json.loads(text)) == text
-    except ValueError:
-        return False
+def wanted_of(asked, wanted, rows, damage):
+    """Returns the one reply to each request: a 500 where what it needs is gone; else what the rows show before the writes, and after them."""
+    before, after = rows
+    shown = [[FAILED if name in gone else shown_of(there, path) for name, (_, path, _) in zip(NAMES, READING)] for there, gone in ((before, damage.before), (after, damage.after))]
+    first = len(READING)
+    written = [as_before if word == "." else OTHERWISE[word] for word, as_before in zip(damage.writes, wanted[first : first + len(WRITING)])]
+    return shown[0] + written + shown[1]
 
 
-def replies_after(options, copied, edit, asked, wanted):
-    """Asks a server on a file with an edited cell, and returns which kinds its replies are: as before, 500, or shown."""
-    kinds = set()
-    server = Server(options, copied, 1)
-    for sent, want, got in zip(asked, wanted, replies_to(server, asked)):
-        kinds.add("as before" if got == want else "500" if got == FAILED else "shown")
-        if got not in (want, FAILED):
-            compare(f"{edit}: {sent}", True, is_of_the_profile(*got))
-    server.ended(str(edit))
-    return kinds
+def kind_of(want, without):
+    """Returns the kind of a reply."""
+    return "500" if want == FAILED else "as before" if want == without else "shown"
+
+
+def through_proxy(replies):
+    """Returns the replies as a proxy would hand them out that makes a 404 of each 500."""
+    return [(404, text_of({"error": "not_found", "reason": "missing"})) if reply == FAILED else reply for reply in replies]
+
+
+def compare_replies(edit, asked, replies, wanted):
+    """Compares each reply with the one that has to come, and tells that a proxy in between would be found."""
+    for number, (sent, want, got) in enumerate(zip(asked, wanted, replies)):
+        compare(f"{edit}: {number}, {sent}", want, got)
+    compare(f"{edit}: a proxy that makes a 404 of each 500 is found", FAILED in wanted, through_proxy(replies) != wanted)
 
 
 def try_edit(options, folder, asked, wanted, numbered):
-    """Edits one cell of a copy of the file, and compares what comes of it with what its column allows. Returns the kinds of the replies."""
-    number, edit = numbered
-    table, column, _, new = edit
+    """Edits one cell of a copy of the file, and compares what comes of it. Returns the kinds of the replies."""
+    number, (edit, damage) = numbered
+    table, _, _, new = edit
     copied = f"{folder}/edited{number}.db"
     shutil.copyfile(f"{folder}/whole.db", copied)
     try:
@@ -125,17 +170,35 @@ def try_edit(options, folder, asked, wanted, numbered):
         if table == "meta" and new != 1:
             compare_refusal(str(edit), options, words_of(file=copied), 1, "file")
             return {"refused at the start"}
-        kinds = replies_after(options, copied, edit, asked, wanted)
-        compare(f"{edit}: replies that its column doesn't allow", set(), kinds - ALLOWED[f"{table}.{column}"])
-        return kinds
+        before = rows_of(copied)
+        server = Server(options, copied, 1)
+        replies = replies_to(server, asked)
+        server.ended(str(edit), is_checked=False)
+        all_wanted = wanted_of(asked, wanted, (before, rows_of(copied)), damage)
+        compare_replies(edit, asked, replies, all_wanted)
+        return set(map(kind_of, all_wanted, wanted))
     finally:
         for name in os.listdir(folder):
             if name.startswith(f"edited{number}.db"):
                 os.remove(f"{folder}/{name}")
 
 
+def damaged_edits(file):
+    """Returns the edits of single cells, each with what it damages, and the lines of edits.rows that speak of none."""
+    said, rows = damages(), rows_of(file)
+    cells = {(table, row[0]): row[1:] for table in rows for row in rows[table]}
+    found, unused = [], set(said)
+    for edit in edits_of(file):
+        table, column, row, new = edit
+        place = f"{table}.{column}", "1" if table == "meta" else name_of(table, cells[table, row])
+        keys = {(*place, SPELLED.get(new, new)), (*place, "*")}
+        unused -= keys
+        found.append((edit, next((said[key] for key in keys if key in said), UNDAMAGED)))
+    return found, unused
+
+
 def check_edited(options, folder):
-    """A cell that somebody edited, whichever: each reply is as before, a 500, or shows the cell, as its column allows."""
+    """A cell that somebody edited, whichever: each reply is a 500 where edits.rows says that it needs what is gone, and else shows the rows."""
     file, node = f"{folder}/whole.db", Node()
     server = Server(options, file, 1)
     wanted = [node.answer(ADMIN, method, path, None if value is None else text_of(value)) for method, path, value in FILLING]
@@ -143,13 +206,15 @@ def check_edited(options, folder):
     server.ended("a file to be edited")
     asked = READING + WRITING + READING
     wanted = [node.answer(ADMIN, method, path, None if value is None else text_of(value)) for method, path, value in asked]
-    edits = list(enumerate(edits_of(file)))[:: options.every]
+    all_edits, unused = damaged_edits(file)
+    compare("rows of edits.rows that are of no edit", set(), unused)
+    edits = list(enumerate(all_edits))[:: options.every]
     with concurrent.futures.ThreadPoolExecutor(os.cpu_count()) as pool:
         found = list(pool.map(lambda one: try_edit(options, folder, asked, wanted, one), edits))
     for kind in sorted({kind for kinds in found for kind in kinds}):
         print(f"serve_check: edits of a cell with replies {kind!r}: {sum(kind in kinds for kinds in found)}")
     seen = {}
-    for (_, (table, column, _, _)), kinds in zip(edits, found):
+    for (_, ((table, column, _, _), _)), kinds in zip(edits, found):
         seen.setdefault(f"{table}.{column}", set()).update(kinds)
     if options.edited:
         for column in sorted(seen):

@@ -64,7 +64,7 @@ def check_memory(options, folder):
                 compare(f"{what}: status of request {number}", 201 if documents else 200, status)
                 count += documents
         compare(f"{what}: how many there are", count, json.loads(answer_of(server.port, request("GET", "/db"))[1])["doc_count"])
-        server.ended(what)
+        server.ended(what, is_checked=False)
         server = Server(options, file, 1)
         compare(f"{what}: what the file holds", count, json.loads(answer_of(server.port, request("GET", "/db"))[1])["doc_count"])
         server.ended(f"{what}, opened again")
@@ -85,7 +85,7 @@ def check_cache(options, file):
         status, body = answer_of(server.port, request("GET", "/db/_all_docs?limit=2&skip=39999"))
         compare(f"{what}: the last row", (200, ["c39999"]), (status, [row["id"] for row in json.loads(body)["rows"]]))
         compare(f"{what}: a document", 200, answer_of(server.port, request("GET", "/db/c20000"))[0])
-        server.ended(what)
+        server.ended(what, is_checked=False)
 
 
 def check(options, folder):

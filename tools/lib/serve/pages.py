@@ -4,7 +4,7 @@ import random
 from urllib.parse import quote
 
 from lib.checks import compare
-from lib.server import ADMIN, Server, connected, finds_sound, message, proxy_lines, reply_of, text_of
+from lib.server import ADMIN, Server, connected, message, proxy_lines, reply_of, text_of
 from model import Node
 
 DOCUMENTS, STEPS = 2_000, 400
@@ -49,7 +49,6 @@ def check_pages(options, file, seed):
             head, text = reply_of(made)
             compare(f"pages, seed {seed}, step {number}: {method} {target}", node.answer(ADMIN, method, target, body), (int(head[9:12]), text))
     server.ended("pages")
-    finds_sound(options, "pages", file)
 
 
 def check(options, folder):

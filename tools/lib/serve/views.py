@@ -4,7 +4,7 @@ import random
 from urllib.parse import quote
 
 from lib.checks import compare
-from lib.server import ADMIN, Server, connected, finds_sound, message, proxy_lines, reply_of, text_of
+from lib.server import ADMIN, Server, connected, message, proxy_lines, reply_of, text_of
 from model import Node
 
 DOCUMENTS, STEPS, KEYS = 2_000, 300, 900
@@ -58,7 +58,6 @@ def check_views(options, file, seed):
             head, text = reply_of(made)
             compare(f"views, seed {seed}, step {number}: {method} {target}", node.answer(ADMIN, method, target, body), (int(head[9:12]), text))
     server.ended("views")
-    finds_sound(options, "views", file)
 
 
 def check(options, folder):
