@@ -190,10 +190,10 @@ def serving(place, port, settings):
     process.wait(60)
 
 
-def asked(port, secret, method, path, body=None):
-    """Asks a server as the admin, and returns the status and the value of the reply."""
+def asked(port, secret, method, path, body=None, user=ADMIN):
+    """Asks a server as a user, and returns the status and the value of the reply."""
     with contextlib.closing(http.client.HTTPConnection("127.0.0.1", port, timeout=60)) as made:
-        headers = {"X-Auth-CouchDB-UserName": ADMIN, "X-Auth-CouchDB-Token": token_of(secret, ADMIN)}
+        headers = {"X-Auth-CouchDB-UserName": user, "X-Auth-CouchDB-Token": token_of(secret, user)}
         made.request(method, path, None if body is None else text_of(body), headers)
         reply = made.getresponse()
         return reply.status, json.loads(reply.read())

@@ -184,7 +184,7 @@ def limiting(limit, memory):
 class Server:
     """A running server."""
 
-    def __init__(self, options, file, conns, port=0, limit=None, memory=None, at_once=None, cache=None):
+    def __init__(self, options, file, conns, port=0, limit=None, memory=None, at_once=None, cache=None, more=()):
         self.options, self.file = options, file
         self.port = port or options.port
         words = ["serve", "--secret", SECRET, "--file", file, "--port", str(self.port), "--conns", str(conns), ADMIN]
@@ -192,6 +192,7 @@ class Server:
             words += ["--at-once", str(at_once)]
         if cache is not None:
             words += ["--cache", str(cache)]
+        words += more
         self.process = subprocess.Popen(shlex.split(options.program) + words, stdout=subprocess.PIPE, stderr=subprocess.PIPE, preexec_fn=limiting(limit, memory))
         self.lines = queue.Queue()
         threading.Thread(target=self.read_lines, daemon=True).start()
@@ -224,11 +225,14 @@ class Server:
             self.line = self.lines.get(timeout=60)
         compare(f"{what}: the line", f"listening 127.0.0.1:{self.port}\n", self.line)
         compare(f"{what}: nothing more", "", self.lines.get(timeout=60))
-        said = [line for line in self.process.stderr.read().decode().splitlines() if not line.startswith("couchd: unproved")]
-        compare(f"{what}: how it ended", (0, []), (status, said))
+        compare(f"{what}: how it ended", (0, []), (status, self.said()))
         # A program that runs unproved would take minutes for it.
         if is_checked and not self.options.port:
             finds_sound(self.options, what, self.file)
+
+    def said(self):
+        """Returns the lines that the server, which has ended, printed on standard error."""
+        return [line for line in self.process.stderr.read().decode().splitlines() if not line.startswith("couchd: unproved")]
 
     def stopped(self, what):
         """Stops the server, whatever it does, and compares what `couchd check` says of its file."""

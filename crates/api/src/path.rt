@@ -1,6 +1,6 @@
 //! The parts of a request's path, and what a part says once its escapes are read (RFC 3986, sections 2.1 and 3.3).
 
-ghost use Rattle.std.specs.Prelude.{◌≡◌, ◌++◌, ◌∷◌, IfOk, false, option_map, option_copied, string_bytes};
+ghost use Rattle.std.specs.Prelude.{◌≡◌, ◌++◌, ◌∷◌, IfOk, IsTrue, false, option_map, option_copied, string_bytes};
 ghost use Rattle.tree.specs.DocumentId.{is_local_id};
 ghost use Rattle.api.specs.RequestReading.{Says};
 ghost use Rattle.api.specs.Paths.{database_name_in, decoded_text, decoded_at, document_id_in, id_text_in};
@@ -45,7 +45,8 @@ pub fn document_id(alloc: Global, path: &str) -> Result<DocId, RequestFault>
 
 /// Reads the id of the local document that a path leads to.
 pub fn local_id(alloc: Global, path: &str) -> Result<DocId, RequestFault>
-    ensures { Says (λ id. id) result (there_or Refusal.Id (local_id_in path.now)) }
+    ensures says { Says (λ id. id) result (there_or Refusal.Id (local_id_in path.now)) }
+    ensures local { IfOk result (λ id. IsTrue (is_local_id id)) }
 {
     let id = named_id(alloc, path)?;
     if !id.is_local() {

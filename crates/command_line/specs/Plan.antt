@@ -43,9 +43,10 @@ abbrev pub serve_options : App
 serve_options = with_rule (with_rule (with_rule (with_rule (command_named (codes "serve"))
     (required_option (codes "secret"))) (required_option (codes "file"))) (required_option (codes "port"))) (required_option (codes "conns"))
 
--- `serve --secret S --file F --port P --conns N [--at-once K] [--cache MB] [ADMIN]...`
+-- `serve --secret S --file F --port P --conns N [--at-once K] [--cache MB] [--log] [ADMIN]...`
 abbrev pub serve_command : Shape
-serve_command = (with_rule (with_rule (with_rule serve_options (optional_option (codes "at-once"))) (optional_option (codes "cache"))) admin_rule).top
+serve_command = (with_rule (with_rule (with_rule (with_rule serve_options
+    (optional_option (codes "at-once"))) (optional_option (codes "cache"))) (flag (codes "log"))) admin_rule).top
 
 -- the words of `sync` that have to be given
 abbrev pub sync_options : App
@@ -114,7 +115,7 @@ cache_in = number_or 64 4096
 -- ---- what is asked
 
 -- what a server is to be: its secret and its admins, the path of its file, its port, after how many connections it ends, how many are open at once, and how many
--- megabytes of its file it keeps in memory at most
+-- megabytes of its file it keeps in memory at most; whether it prints a line for each reply of 500, and for its end
 pub record ServerAsked : Type 0 where
   pub secret : List ℕ
   pub file : List ℕ
@@ -122,6 +123,7 @@ pub record ServerAsked : Type 0 where
   pub conns : ℕ
   pub at_once : ℕ
   pub cache : ℕ
+  pub log : Bool
   pub admins : List (List ℕ)
 
 -- where a side of a pass is: in the store in a file, or at a server
@@ -162,11 +164,16 @@ admins_in rows = unwrap_or (all_of (codes "admin") rows) []
 abbrev pub lab_asked_by : List Row → Option Asked
 lab_asked_by rows = option_map (λ secret. lab_asked secret (admins_in rows)) (first_of (codes "secret") rows)
 
+-- a word without a value was given: clap reads `true` for it then, and else `false`
+abbrev pub is_given : Option Text → Bool
+is_given None = false
+is_given (Some text) = bytes_eq text (codes "true")
+
 -- what the words after `serve` ask for
 abbrev pub serve_asked_by : List Row → Option Asked
 serve_asked_by rows =
     option_and_then (λ secret. option_and_then (λ file. option_and_then (λ port. option_and_then (λ conns. option_and_then (λ at_once. option_map (λ cache.
-    serve_asked (record { secret = secret; file = file; port = port; conns = conns; at_once = at_once; cache = cache; admins = admins_in rows }))
+    serve_asked (record { secret = secret; file = file; port = port; conns = conns; at_once = at_once; cache = cache; log = is_given (first_of (codes "log") rows); admins = admins_in rows }))
     (cache_in (first_of (codes "cache") rows))) (at_once_in (first_of (codes "at-once") rows))) (option_and_then conns_in (first_of (codes "conns") rows)))
     (option_and_then port_in (first_of (codes "port") rows))) (first_of (codes "file") rows)) (first_of (codes "secret") rows)
 
@@ -194,11 +201,6 @@ is_header_byte b = not (b == 0 || (b == 10 || b == 13))
 abbrev pub user_in : Option Text → Option (Option Text)
 user_in None = Some None
 user_in (Some name) = if list_all is_header_byte name then Some (Some name) else None
-
--- a word without a value was given: clap reads `true` for it then, and else `false`
-abbrev pub is_given : Option Text → Bool
-is_given None = false
-is_given (Some text) = bytes_eq text (codes "true")
 
 -- a pass that can be made: its sides are apart, and a database is created in a file alone
 abbrev pub can_be_made : SyncAsked → Bool
@@ -272,7 +274,7 @@ sync_of p = record {
 -- the program's plan as the definition's
 abbrev pub command_of : Plan → Asked
 command_of (Lab secret admins) = lab_asked (string_bytes secret) (map string_bytes admins.items)
-command_of (Serve secret file port conns at_once cache admins) =
-    serve_asked (record { secret = string_bytes secret; file = string_bytes file; port = port; conns = conns; at_once = at_once; cache = cache; admins = map string_bytes admins.items })
+command_of (Serve secret file port conns at_once cache log admins) =
+    serve_asked (record { secret = string_bytes secret; file = string_bytes file; port = port; conns = conns; at_once = at_once; cache = cache; log = log; admins = map string_bytes admins.items })
 command_of (Sync plan) = sync_asked (sync_of plan)
 command_of (Check file cache) = check_asked (string_bytes file) cache

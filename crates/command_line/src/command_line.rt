@@ -96,7 +96,7 @@ fn add_lab<'a>(alloc: Global, couchd: Command<'a>) -> Result<Command<'a>, AllocE
     )
 }
 
-/// Adds the command `serve --secret S --file F --port P --conns N [--at-once K] [--cache MB]
+/// Adds the command `serve --secret S --file F --port P --conns N [--at-once K] [--cache MB] [--log]
 /// [ADMIN]...`.
 fn add_serve<'a>(alloc: Global, couchd: Command<'a>) -> Result<Command<'a>, AllocError>
     ensures { IfOk result (λ added. app_of added ≡ with_subcommand (app_of couchd.entry) serve_command) }
@@ -108,6 +108,7 @@ fn add_serve<'a>(alloc: Global, couchd: Command<'a>) -> Result<Command<'a>, Allo
         Word::Required("conns"),
         Word::Optional("at-once"),
         Word::Optional("cache"),
+        Word::Flag("log"),
         Word::Admins,
     ];
     add_command(alloc, couchd, "serve", &words)
@@ -232,6 +233,7 @@ fn serve_plan(alloc: Global, matches: &ArgMatches<'_>) -> Result<Plan, PlanFault
     let conns = number_at(matches, "conns", 1, GREATEST_CONNS)?;
     let at_once = number_or(matches, "at-once", AT_ONCE, GREATEST_AT_ONCE)?;
     let cache = number_or(matches, "cache", CACHE, GREATEST_CACHE)?;
+    let log = is_given(matches, "log");
     let admins = admins_of(alloc, matches)?;
     Ok(Plan::Serve {
         secret,
@@ -240,6 +242,7 @@ fn serve_plan(alloc: Global, matches: &ArgMatches<'_>) -> Result<Plan, PlanFault
         conns,
         at_once,
         cache,
+        log,
         admins,
     })
 }

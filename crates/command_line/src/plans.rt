@@ -11,8 +11,8 @@ pub enum Plan {
         /// The names of the server's admins.
         admins: Vec<String>,
     },
-    /// `serve --secret S --file F --port P --conns N [--at-once K] [--cache MB] [ADMIN]...`: serve the
-    /// store in a file.
+    /// `serve --secret S --file F --port P --conns N [--at-once K] [--cache MB] [--log] [ADMIN]...`: serve
+    /// the store in a file.
     Serve {
         /// The secret of the proxy's tokens.
         secret: String,
@@ -26,6 +26,8 @@ pub enum Plan {
         at_once: u32,
         /// How many megabytes of the file's pages are kept in memory at most, 1 to 4,096.
         cache: u32,
+        /// A line on standard error tells of each reply of 500, and of the server's end.
+        log: bool,
         /// The names of the server's admins.
         admins: Vec<String>,
     },

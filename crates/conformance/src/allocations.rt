@@ -3,7 +3,7 @@
 
 use crate::local_client::{DESIGN, node, request, root_request, store, store_in_tables};
 use couch_http::{Request, Response};
-use hub::{Hub, HubFault, Replies};
+use hub::{Hub, HubFault, NoLog, Replies};
 use std::alloc::Global;
 use std::process::{Abort, Termination};
 use std::test::Fail;
@@ -130,7 +130,10 @@ const PIECES: [(u64, &[u8], Option<(&[u8], &[u8])>); 7] = [
 ];
 
 /// Makes a hub over a store with the design document and the document a, and the requests of the steps.
-fn prepare<S: Store + Drop>(alloc: Global, store: S) -> Result<(Hub<S>, Vec<Request>), Fail> {
+fn prepare<S: Store + Drop>(
+    alloc: Global,
+    store: S,
+) -> Result<(Hub<S, NoLog>, Vec<Request>), Fail> {
     let mut hub = Hub::new(alloc, node(alloc, store)?);
     let design = root_request(alloc, "PUT /db/_design/d", DESIGN)?;
     let document = request(alloc, "PUT /db/a", r#"{"v":1}"#)?;
@@ -147,7 +150,7 @@ fn prepare<S: Store + Drop>(alloc: Global, store: S) -> Result<(Hub<S>, Vec<Requ
 }
 
 /// Asks for something, and once more where memory ran out.
-pub fn handle_again<S: Store + Drop>(hub: &mut Hub<S>, request: &Request) -> Response {
+pub fn handle_again<S: Store + Drop>(hub: &mut Hub<S, NoLog>, request: &Request) -> Response {
     let reply = hub.handle(request);
     if reply.status() == 503 && reply.body() == MEMORY {
         return hub.handle(request);
@@ -156,7 +159,7 @@ pub fn handle_again<S: Store + Drop>(hub: &mut Hub<S>, request: &Request) -> Res
 }
 
 /// Opens a connection, and once more where memory ran out.
-pub fn open_again<S: Store + Drop>(hub: &mut Hub<S>) -> Result<u64, HubFault> {
+pub fn open_again<S: Store + Drop>(hub: &mut Hub<S, NoLog>) -> Result<u64, HubFault> {
     match hub.open() {
         Err(HubFault::Memory) => hub.open(),
         opened => opened,
@@ -165,7 +168,7 @@ pub fn open_again<S: Store + Drop>(hub: &mut Hub<S>) -> Result<u64, HubFault> {
 
 /// Feeds a piece, and once more where memory ran out.
 pub fn feed_again<S: Store + Drop>(
-    hub: &mut Hub<S>,
+    hub: &mut Hub<S, NoLog>,
     conn: u64,
     piece: &[u8],
 ) -> Result<Replies, HubFault> {
@@ -177,7 +180,7 @@ pub fn feed_again<S: Store + Drop>(
 
 /// Feeds a piece that completes a request, and the whole request where that was answered by the 503.
 pub fn feed_request<S: Store + Drop>(
-    hub: &mut Hub<S>,
+    hub: &mut Hub<S, NoLog>,
     conn: u64,
     piece: &[u8],
     whole: &[u8],
@@ -192,7 +195,7 @@ pub fn feed_request<S: Store + Drop>(
 /// Plays all steps and pieces, and compares the replies.
 fn play<S: Store + Drop>(
     rt: &impl Abort,
-    hub: &mut Hub<S>,
+    hub: &mut Hub<S, NoLog>,
     requests: &[Request],
 ) -> Result<(), Fail> {
     for (request, (line, _body, status, wanted)) in requests.iter().zip(STEPS) {

@@ -5,7 +5,7 @@
 use crate::allocations::{feed_again, feed_request, handle_again, open_again, tell};
 use crate::local_client::{BOB, NOBODY, ROOT, node, request_with, store, store_in_tables};
 use couch_http::Request;
-use hub::Hub;
+use hub::{Hub, NoLog};
 use std::alloc::Global;
 use std::process::Abort;
 use std::test::Fail;
@@ -179,7 +179,7 @@ fn start<S: Store + Drop>(
     alloc: Global,
     store: Result<S, Fail>,
     steps: &[(&str, &str, &str, u16, &[u8])],
-) -> Result<(Hub<S>, Vec<Request>), Fail> {
+) -> Result<(Hub<S, NoLog>, Vec<Request>), Fail> {
     let hub = Hub::new(alloc, node(alloc, store?)?);
     let mut requests = Vec::new(alloc);
     for (user, line, body, _status, _wanted) in steps {
@@ -191,7 +191,7 @@ fn start<S: Store + Drop>(
 /// Asks for each step, and compares the replies.
 fn play<S: Store + Drop>(
     rt: &impl Abort,
-    hub: &mut Hub<S>,
+    hub: &mut Hub<S, NoLog>,
     requests: &[Request],
     steps: &[(&str, &str, &str, u16, &[u8])],
 ) {
@@ -229,7 +229,7 @@ fn tell_early(rt: &HostRuntime, early: Option<Fail>) -> Result<(), Fail> {
 /// Feeds bytes one by one, to which nothing is replied.
 fn feed_bytewise<S: Store + Drop>(
     rt: &impl Abort,
-    hub: &mut Hub<S>,
+    hub: &mut Hub<S, NoLog>,
     conn: u64,
     bytes: &[u8],
 ) -> Result<(), Fail> {
@@ -242,7 +242,7 @@ fn feed_bytewise<S: Store + Drop>(
 /// Feeds the end of a request, and compares the bytes of the one reply.
 fn feed_last<S: Store + Drop>(
     rt: &impl Abort,
-    hub: &mut Hub<S>,
+    hub: &mut Hub<S, NoLog>,
     conn: u64,
     end: &[u8],
     told: (&[u8], &[u8]),
@@ -257,7 +257,7 @@ fn feed_last<S: Store + Drop>(
 }
 
 /// Feeds two connections of a hub: what ends first is handled first.
-fn play_connections<S: Store + Drop>(rt: &impl Abort, hub: &mut Hub<S>) -> Result<(), Fail> {
+fn play_connections<S: Store + Drop>(rt: &impl Abort, hub: &mut Hub<S, NoLog>) -> Result<(), Fail> {
     for _connection in 0..2 {
         let _number = open_again(hub)?;
     }

@@ -33,6 +33,7 @@ fn run(rt: &HostRuntime) -> Result<u8, CommandFault> {
             conns,
             at_once,
             cache,
+            log,
             admins,
         } => {
             let path = file.as_str();
@@ -45,6 +46,7 @@ fn run(rt: &HostRuntime) -> Result<u8, CommandFault> {
                 conns,
                 at_once,
                 cache,
+                log,
             )?)
         }
         Plan::Sync(plan) => Ok(sync(rt, &plan)?),

@@ -7,7 +7,6 @@ use Rattle.store.specs.declared.store.Store.{Ghosts}
 use Rattle.engine.specs.Acts.{Act, Logs, accepted, opened, brought, took, closed}
 use Rattle.engine.specs.Desks.{Deed, Desk, Does, Moment, acts_in, new_desk}
 use Rattle.engine.specs.Standing.{Standing}
-use Rattle.engine.specs.declared.fault.EngineFault.{EngineFault}
 use Rattle.engine.specs.declared.limits.Limits.{Limits}
 
 -- how many connections are accepted by these acts
@@ -38,7 +37,7 @@ RunsWithin {S} g most old (d ∷ deeds) new =
 -- A hub was served within these limits from one moment to the other: these deeds were logged, where the log is known, and lead from the one
 -- hub to the other. No more connections are open at once than may be, and no more are accepted, or opened, than are to be served. Where the
 -- answer is `Ok` just so many were accepted, and none is open any more.
-pub record ServesWithin {S : Type 0} (g : Ghosts S) (limits : Limits) (result : Result (Unit {0}) EngineFault) (old new : Moment S) : Type 0 where
+pub record ServesWithin {S A E : Type 0} (g : Ghosts S) (limits : Limits) (result : Result A E) (old new : Moment S) : Type 0 where
   pub deeds : List Deed
   pub standings : FinMap nat_cmp Standing
   pub logs : Logs old.log new.log (acts_in deeds)

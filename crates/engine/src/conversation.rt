@@ -5,7 +5,7 @@ use crate::flow::Flow;
 use crate::limits::Limits;
 use crate::sockets::Sockets;
 use couch_http::{Fixed, Response};
-use hub::{Hub, Replies};
+use hub::{FailureLog, Hub, Replies};
 use std::alloc::Global;
 use std::collections::VecDeque;
 use store::Store;
@@ -103,9 +103,9 @@ impl Conversation {
 
     /// Takes a turn: writes what is owed; where nothing is left, reads a piece, feeds it, and writes the
     /// replies.
-    pub fn take_turn<S: Store + Drop, W: Sockets>(
+    pub fn take_turn<S: Store + Drop, L: FailureLog + Drop, W: Sockets>(
         &mut self,
-        hub: &mut Hub<S>,
+        hub: &mut Hub<S, L>,
         sockets: &mut W,
         conn: u64,
         room: &mut [u8],
@@ -123,9 +123,9 @@ impl Conversation {
     }
 
     /// Takes a turn that is not lost.
-    fn go_on<S: Store + Drop, W: Sockets>(
+    fn go_on<S: Store + Drop, L: FailureLog + Drop, W: Sockets>(
         &mut self,
-        hub: &mut Hub<S>,
+        hub: &mut Hub<S, L>,
         sockets: &mut W,
         conn: u64,
         room: &mut [u8],
@@ -184,9 +184,9 @@ impl Conversation {
 
     /// Reads a piece, feeds it, and writes the replies. Pieces that only go on with a request, and with
     /// which no reply comes, are read one after another: a large request has the time that it may take.
-    fn take_pieces<S: Store + Drop, W: Sockets>(
+    fn take_pieces<S: Store + Drop, L: FailureLog + Drop, W: Sockets>(
         &mut self,
-        hub: &mut Hub<S>,
+        hub: &mut Hub<S, L>,
         sockets: &mut W,
         conn: u64,
         room: &mut [u8],
@@ -218,9 +218,9 @@ impl Conversation {
     }
 
     /// Reads a piece, feeds it, and writes the replies.
-    fn take_next<S: Store + Drop, W: Sockets>(
+    fn take_next<S: Store + Drop, L: FailureLog + Drop, W: Sockets>(
         &mut self,
-        hub: &mut Hub<S>,
+        hub: &mut Hub<S, L>,
         sockets: &mut W,
         conn: u64,
         room: &mut [u8],
@@ -265,7 +265,13 @@ impl Conversation {
     }
 
     /// Takes a piece: feeds it to the hub and owes the replies, or passes it over.
-    fn feed_hub<S: Store + Drop>(&mut self, hub: &mut Hub<S>, conn: u64, piece: &[u8], now: u64)
+    fn feed_hub<S: Store + Drop, L: FailureLog + Drop>(
+        &mut self,
+        hub: &mut Hub<S, L>,
+        conn: u64,
+        piece: &[u8],
+        now: u64,
+    )
         requires stage { self.old.stage ≢ ConversationStage.Lost }
         requires owed { self.old.owed ≡ [] }
         ensures { (words : List ℕ) × TakesPiece S.Store (record { hub = hub.old; standing = standing_of self.old })
@@ -278,7 +284,13 @@ impl Conversation {
     }
 
     /// Feeds a piece to the hub, and owes the replies.
-    fn feed<S: Store + Drop>(&mut self, hub: &mut Hub<S>, conn: u64, piece: &[u8], now: u64)
+    fn feed<S: Store + Drop, L: FailureLog + Drop>(
+        &mut self,
+        hub: &mut Hub<S, L>,
+        conn: u64,
+        piece: &[u8],
+        now: u64,
+    )
         requires stage { self.old.stage ≡ ConversationStage.Open }
         requires owed { self.old.owed ≡ [] }
         ensures { (words : List ℕ) × TakesPiece S.Store (record { hub = hub.old; standing = standing_of self.old })

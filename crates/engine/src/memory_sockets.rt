@@ -13,7 +13,7 @@ use crate::memory_client::MemoryClient;
 use crate::serving::serve_all;
 use crate::sockets::Sockets;
 use http_server::Log;
-use hub::Hub;
+use hub::{FailureLog, Hub};
 use std::alloc::Global;
 use std::io;
 use store::Store;
@@ -58,9 +58,9 @@ impl MemorySockets {
     }
 
     /// Serves the clients, as `serve_all` does.
-    pub fn serve<S: Store + Drop>(
+    pub fn serve<S: Store + Drop, L: FailureLog + Drop>(
         &mut self,
-        hub: &mut Hub<S>,
+        hub: &mut Hub<S, L>,
         limits: &Limits,
     ) -> Result<(), EngineFault>
         ensures { PassesInOrder S.Store hub.old (acts_of self.old.entries.items) hub.new (acts_of self.new.entries.items) }

@@ -16,7 +16,7 @@ use crate::fault::EngineFault;
 use crate::flow::Accepted;
 use crate::limits::Limits;
 use crate::sockets::Sockets;
-use hub::Hub;
+use hub::{FailureLog, Hub};
 use std::alloc::Global;
 use std::collections::{BTreeMap, VecDeque};
 use store::Store;
@@ -50,9 +50,9 @@ struct Conversations {
 ///
 /// `Socket`: nothing can be waited for, or a connection not be accepted. `Waits`: it waited 2^64 - 1
 /// times.
-pub fn serve_all<S: Store + Drop, W: Sockets>(
+pub fn serve_all<S: Store + Drop, L: FailureLog + Drop, W: Sockets>(
     alloc: Global,
-    hub: &mut Hub<S>,
+    hub: &mut Hub<S, L>,
     sockets: &mut W,
     limits: &Limits,
 ) -> Result<(), EngineFault>
@@ -84,9 +84,9 @@ impl Conversations {
     }
 
     /// Goes round until as many connections were served as the limits say.
-    fn take_rounds<S: Store + Drop, W: Sockets>(
+    fn take_rounds<S: Store + Drop, L: FailureLog + Drop, W: Sockets>(
         &mut self,
-        hub: &mut Hub<S>,
+        hub: &mut Hub<S, L>,
         sockets: &mut W,
         limits: &Limits,
     ) -> Result<(), EngineFault>
@@ -108,9 +108,9 @@ impl Conversations {
     }
 
     /// Waits once, accepts what waits, and gives each connection that may be ready a turn.
-    fn take_round<S: Store + Drop, W: Sockets>(
+    fn take_round<S: Store + Drop, L: FailureLog + Drop, W: Sockets>(
         &mut self,
-        hub: &mut Hub<S>,
+        hub: &mut Hub<S, L>,
         sockets: &mut W,
         room: &mut [u8],
         limits: &Limits,
@@ -172,9 +172,9 @@ impl Conversations {
     }
 
     /// Accepts connections that wait, as many as may be.
-    fn accept_all<S: Store + Drop, W: Sockets>(
+    fn accept_all<S: Store + Drop, L: FailureLog + Drop, W: Sockets>(
         &mut self,
-        hub: &mut Hub<S>,
+        hub: &mut Hub<S, L>,
         sockets: &mut W,
         limits: &Limits,
     ) -> Result<(), EngineFault>
@@ -194,9 +194,9 @@ impl Conversations {
     }
 
     /// Accepts a connection, if one waits.
-    fn accept_next<S: Store + Drop, W: Sockets>(
+    fn accept_next<S: Store + Drop, L: FailureLog + Drop, W: Sockets>(
         &mut self,
-        hub: &mut Hub<S>,
+        hub: &mut Hub<S, L>,
         sockets: &mut W,
     ) -> Result<(), EngineFault>
         requires { self.old.accepted < 2 ^ 64 - 1 }
@@ -218,7 +218,11 @@ impl Conversations {
     }
 
     /// Adds the connection that was accepted.
-    fn add<S: Store + Drop, W: Sockets>(&mut self, hub: &mut Hub<S>, sockets: &mut W)
+    fn add<S: Store + Drop, L: FailureLog + Drop, W: Sockets>(
+        &mut self,
+        hub: &mut Hub<S, L>,
+        sockets: &mut W,
+    )
         ensures goes_on { (most : ℕ) → GoesOnWithin S.Store most
             (with_unopened (state_of hub.old self.old.conversations.entries self.old.accepted (W.log sockets.old)))
             (state_of hub.new self.new.conversations.entries self.new.accepted (W.log sockets.new)) }
@@ -251,9 +255,9 @@ impl Conversations {
     }
 
     /// Gives each connection of the queue a turn.
-    fn take_turns<S: Store + Drop, W: Sockets>(
+    fn take_turns<S: Store + Drop, L: FailureLog + Drop, W: Sockets>(
         &mut self,
-        hub: &mut Hub<S>,
+        hub: &mut Hub<S, L>,
         sockets: &mut W,
         room: &mut [u8],
     )
@@ -271,9 +275,9 @@ impl Conversations {
     }
 
     /// Gives a connection a turn.
-    fn take_turn<S: Store + Drop, W: Sockets>(
+    fn take_turn<S: Store + Drop, L: FailureLog + Drop, W: Sockets>(
         &mut self,
-        hub: &mut Hub<S>,
+        hub: &mut Hub<S, L>,
         sockets: &mut W,
         conn: u64,
         room: &mut [u8],
@@ -291,9 +295,9 @@ impl Conversations {
     }
 
     /// Gives a connection a turn, if it is still there.
-    fn turn_of<S: Store + Drop, W: Sockets>(
+    fn turn_of<S: Store + Drop, L: FailureLog + Drop, W: Sockets>(
         &mut self,
-        hub: &mut Hub<S>,
+        hub: &mut Hub<S, L>,
         sockets: &mut W,
         conn: u64,
         room: &mut [u8],
@@ -311,7 +315,12 @@ impl Conversations {
     }
 
     /// Ends a connection.
-    fn end<S: Store + Drop, W: Sockets>(&mut self, hub: &mut Hub<S>, sockets: &mut W, conn: u64)
+    fn end<S: Store + Drop, L: FailureLog + Drop, W: Sockets>(
+        &mut self,
+        hub: &mut Hub<S, L>,
+        sockets: &mut W,
+        conn: u64,
+    )
         ensures ends { standings_of self.new.conversations.entries ≡ remove (standings_of self.old.conversations.entries) conn }
         ensures accepted { self.new.accepted ≡ self.old.accepted }
         ensures hub { hub.new ≡ hub_without conn hub.old }
@@ -323,9 +332,9 @@ impl Conversations {
     }
 
     /// Ends the connections that are silent, or slow, for too long.
-    fn close_late<S: Store + Drop, W: Sockets>(
+    fn close_late<S: Store + Drop, L: FailureLog + Drop, W: Sockets>(
         &mut self,
-        hub: &mut Hub<S>,
+        hub: &mut Hub<S, L>,
         sockets: &mut W,
         limits: &Limits,
     )

@@ -5,7 +5,8 @@ use Rattle.std.specs.Prelude.{option_and_then, ◌==◌}
 use Rattle.std.specs.Cmp.{first_so}
 use Rattle.std.proofs.Common.{eq-eqb}
 use Rattle.store.specs.Database.{Document, HasSequences}
-use Rattle.store.specs.Lawful.{IsLawfulDatabase, IsWritten}
+use Rattle.store.specs.Lawful.{IsLawfulDatabase, IsLocalDocument, IsWritten}
+use Rattle.tree.specs.DocumentId.{is_local_id}
 use Rattle.tables.proofs.Lookups.{database_found, get_id, local_found, own_number}
 use Rattle.tables.proofs.RowMaps.{mapped_some, passing}
 use Rattle.tables.proofs.Single.{HasOneAtMost}
@@ -17,12 +18,12 @@ use Rattle.tree.specs.History.{IsRooted, leaves}
 use Rattle.tree.specs.Revision.{is_hash}
 use Rattle.tree.specs.Write.{StandsIn}
 use Rattle.tree.specs.declared.entry.Held.{Held}
-use Rattle.file_check.specs.Tables.{AreShaped, IsSoundDocument, stored_revision}
+use Rattle.file_check.specs.Tables.{AreShaped, IsSoundDatabase, IsSoundDocument, stored_revision}
 use Rattle.file_check.proofs.Written.{is_written}
 
 -- each row of these tables is sound
 pub record AreSound (trees : Trees) : Type 0 where
-  pub dbs : AllByRecursion IsDatabaseRow (trees dbs_tree)
+  pub dbs : AllByRecursion (IsSoundDatabase trees) (trees dbs_tree)
   pub docs : AllByRecursion (IsSoundDocument trees) (trees docs_tree)
   pub revs : AllByRecursion (IsRevisionRow trees) (trees revs_tree)
   pub locals : AllByRecursion (IsLocalRow trees) (trees locals_tree)
@@ -231,12 +232,14 @@ module _ (trees : Trees) (shaped : AreShaped trees) (sound : AreSound trees) whe
     documents = λ id x got.
         let k = document_row_of d id x got in
         subst (λ (y : Document). IsWritten y.history) k.document (written k.row k.is);
+    apart = λ id x got. let k = document_row_of d id x got in ap is_local_id (sym k.id_is) ∙ k.is.row.apart;
     sequences = has_sequences d i;
     locals = λ id x got.
         let found = mapped_some local_of _ x (sym (local_found trees d id) ∙ got) in
         let it = found_row (is_row_of_document (number_of d) id) (trees locals_tree) found.0 found.1 in
         let k = all_at (IsLocalRow trees) (trees locals_tree) found.0 sound.locals it.0 in
-        subst (λ (y : LocalDocument). IsBody y.body) found.2 k.body;
+        let own = of_these (number_of d) id found.0 it.1 in
+        subst (IsLocalDocument id) found.2 (subst (λ (i : List ℕ). IsLocalDocument i (local_of found.0)) own.1 k.local);
   }
 
   are_lawful : AreLawful (contents_in trees)
@@ -261,7 +264,7 @@ module _ (trees : Trees) (shaped : AreShaped trees) (sound : AreSound trees) whe
     docs_numbered = shaped.kept.docs;
     revs_numbered = shaped.kept.revs;
     locals_numbered = shaped.kept.locals;
-    dbs = sound.dbs;
+    dbs = all_weaker (IsSoundDatabase trees) IsDatabaseRow (λ r k. k.row) (trees dbs_tree) sound.dbs;
     names_apart = shaped.names_apart;
     docs = all_weaker (IsSoundDocument trees) (IsDocumentRow trees) (λ r k. k.row) (trees docs_tree) sound.docs;
     ids_apart = shaped.ids_apart;

@@ -1,7 +1,8 @@
 -- What the rows of a query by key say of the tables.
 use Rattle.tables.proofs.Common.{Bool, IsPermutation, List, Row, Trees, [], ap, cond, dbs_tree, docs_tree, false, filter, has_number, is_row_of_document, length, id_of, int_eq, is_row_of_database, length-map, length_permutation, list_any, list_any-IsPermutation, listed_document, map, option_map, refl, revs_tree, slice_get, slice_get-filter, true, ℕ, ℤ, ◌∙◌, ◌∷◌, ◌≡◌, ◌||◌, arith, nat_tests, bytes, bytes_eq, column, sym, whole_in_cell, ◌&&◌}
 use Rattle.std.specs.Prelude.{nat_lt}
-use Rattle.file_check.specs.inner.Queries.{is_numbered, is_shown_hash, is_stored, length_at, length_shown, shown_length, shown_numbered, shown_stored}
+use Rattle.file_check.specs.inner.Queries.{is_numbered, is_shown_hash, is_stored, length_at, length_shown, shown_length, shown_numbered, shown_sequence, shown_stored}
+use Rattle.file_check.specs.Tables.{is_at_sequence}
 
 first_shown : (rows : List Row) → length_shown (map shown_length rows) ≡ option_map (λ d. whole_in_cell (column d 4)) (slice_get rows 0)
 first_shown [] = refl
@@ -23,6 +24,11 @@ some_left p (r ∷ rows) = by (p r) (some_left p rows)
 pub documents_found : (trees : Trees) (db : ℤ) (id : List ℕ) (rows : List Row) → rows ≡ map listed_document (filter (is_row_of_document db id) (trees docs_tree)) → nat_lt 0 (length rows) ≡ list_any (is_row_of_document db id) (trees docs_tree)
 documents_found trees db id rows is =
     ap (λ l. nat_lt 0 (length l)) is ∙ ap (nat_lt 0) (length-map (filter (is_row_of_document db id) (trees docs_tree)) listed_document) ∙ some_left (is_row_of_document db id) (trees docs_tree)
+
+pub sequences_found : (trees : Trees) (db sequence : ℤ) (rows : List Row) → IsPermutation (map shown_sequence (filter (is_at_sequence db sequence) (trees docs_tree))) rows
+    → nat_lt 0 (length rows) ≡ list_any (is_at_sequence db sequence) (trees docs_tree)
+sequences_found trees db sequence rows same =
+    ap (nat_lt 0) (length_permutation _ rows same ∙ length-map (filter (is_at_sequence db sequence) (trees docs_tree)) shown_sequence) ∙ some_left (is_at_sequence db sequence) (trees docs_tree)
 
 pub stored_found : (trees : Trees) (db : ℤ) (id : List ℕ) (number : ℤ) (hash : List ℕ) (rows : List Row) → IsPermutation (map shown_stored (filter (is_stored db id number hash) (trees revs_tree))) rows
     → nat_lt 0 (length rows) ≡ list_any (is_stored db id number hash) (trees revs_tree)

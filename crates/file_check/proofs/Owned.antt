@@ -1,13 +1,17 @@
 -- What a row belongs to is there.
 use Rattle.tables.proofs.Common.{AllByRecursion, Blob, Bool, Database, Err, HistoryContent, IfOk, Int, IsDatabaseNumber, IsDatabaseRow, IsLocalRow, IsPermutation, IsRevisionRow, List, None, Null, Ok, Option, Real, Result, Revision, Row, Some, Text, Trees, Value, any_is_found, ap, arith, column, count_in_cell, database_row_at, db_of, dbs_tree, filter, has_number, history_in_rows, id_of, inside, ints, is_gone_row, is_row_of_document, is_some, sequence_of_database, map, nat_tests, negsuc, option_map, pos, refl, revision_of_row, revs_tree, sequence_of_row, shown_revision, subst, sym, true, whole_in_cell, winner_text, ℕ, ℤ, ◌∙◌, ◌≡◌, ◌≢◌, ◌≤◌}
-use Rattle.std.specs.Prelude.{int_le, ⊤}
+use Rattle.std.specs.Ordering.{int_eq}
+use Rattle.std.specs.List.{list_any}
+use Rattle.std.specs.Prelude.{int_le, ◌||◌}
+use Rattle.tables.specs.Rows.{number_of}
+use Rattle.tables.specs.Schema.{docs_tree}
 use Rattle.tables.proofs.Sorted.{both_in}
 use Rattle.tables.specs.Shown.{IsShownRevision}
 use Rattle.transactions.specs.Reading.{history_shown}
 use Rattle.transactions.proofs.HistoryRows.{AreApart, history_apart}
 use Rattle.file_check.proofs.ShownRevisions.{rows_intact}
-use Rattle.file_check.specs.inner.Rows.{IsLawfulDocument, IsLawfulLocal, IsOwnedDocument, IsWinning}
-use Rattle.file_check.specs.Tables.{AreShaped, HasDatabaseCells, HasDocumentCells, HasHeldLeaves, HasLocalCells, IsShaped, IsSoundDocument, stored_revision}
+use Rattle.file_check.specs.inner.Rows.{IsEndedDatabase, IsLawfulDocument, IsLawfulLocal, IsOwnedDocument, IsWinning}
+use Rattle.file_check.specs.Tables.{AreShaped, HasDatabaseCells, HasDocumentCells, HasHeldLeaves, HasLocalCells, IsShaped, IsSoundDatabase, IsSoundDocument, is_at_sequence, stored_revision}
 use Rattle.file_check.specs.inner.Queries.{Judges, length_at}
 use Rattle.file_check.specs.declared.finding.CheckFault.{CheckFault}
 use Rattle.file_check.specs.declared.finding.Wrong.{Wrong}
@@ -23,10 +27,10 @@ there_number : (trees : Trees) (db : ℤ) → IsDatabaseNumber trees db → is_s
 there_number trees db there = some_mapped (λ d. whole_in_cell (column d 4)) (database_row_at (trees dbs_tree) db) ∙ sym (any_is_found (has_number db) (trees dbs_tree)) ∙ there
 
 local_of_database : (trees : Trees) (r : Row) → IsDatabaseNumber trees (db_of r) → IsLawfulLocal r → IsLocalRow trees r
-local_of_database trees r there k = record { is = k.is; there = there; named = k.named; small = k.small; body = k.body }
+local_of_database trees r there k = record { is = k.is; there = there; named = k.named; local = k.local }
 
 lawful_local : (trees : Trees) (r : Row) → IsLocalRow trees r → IsLawfulLocal r
-lawful_local trees r k = record { is = k.is; named = k.named; small = k.small; body = k.body }
+lawful_local trees r k = record { is = k.is; named = k.named; local = k.local }
 
 pub judged_local : (trees : Trees) (r : Row) (there : Bool) → there ≡ is_some (length_at trees (db_of r)) → (judged : Result (Option Wrong) CheckFault) → (HasLocalCells r → IfOk judged (Judges ((there ≡ true) × IsLawfulLocal r)))
     → IfOk judged (λ found. HasLocalCells r → Judges (IsLocalRow trees r) found)
@@ -61,6 +65,7 @@ document_of_database trees r length rows is apart same lawful k =
         is = lawful.is;
         there = number_there trees (db_of r) (ap is_some (sym is ∙ k.within.1));
         named = lawful.named;
+        apart = lawful.apart;
         text = lawful.text;
         positive = lawful.positive;
         within = λ d found. sequence_within trees r d length k.within.0 is k.within.1 (ap (λ x. whole_in_cell (column x 3)) lawful.is) k.within.2 found;
@@ -90,7 +95,7 @@ whole_of_count (Blob b) s low h = absurd (omega (arith, low, h))
 
 module _ (trees : Trees) (r : Row) (length : Option ℤ) (is : length ≡ length_at trees (db_of r)) (k : IsSoundDocument trees r) where
   lawful_document : IsLawfulDocument r
-  lawful_document = record { is = k.row.is; named = k.row.named; text = k.row.text; positive = k.row.positive }
+  lawful_document = record { is = k.row.is; named = k.row.named; apart = k.row.apart; text = k.row.text; positive = k.row.positive }
 
   within_its : (n : ℤ) × (length ≡ Some n) × (int_le (whole_in_cell (column r 3)) n ≡ true)
   within_its = by (database_row_at (trees dbs_tree) (db_of r)) refl (sym (any_is_found (has_number (db_of r)) (trees dbs_tree)) ∙ k.row.there)
@@ -126,7 +131,11 @@ judged_document d r length rows fit same (Ok None) judge = λ cells is sound.
 
 -- ---- databases
 
-pub judged_database : (r : Row) (judged : Result (Option Wrong) CheckFault) → (HasDatabaseCells r → IfOk judged (Judges (IsDatabaseRow r))) → IfOk judged (λ found. HasDatabaseCells r → ⊤ → Judges (IsDatabaseRow r) found)
-judged_database r (Err e) judge = tt
-judged_database r (Ok (Some w)) judge = λ cells before. judge cells
-judged_database r (Ok None) judge = λ cells before. judge cells
+judged_ends : (r : Row) (there there_now : Bool) → there ≡ there_now → IsEndedDatabase r there → (int_eq (whole_in_cell (column r 4)) (pos 0) || there_now) ≡ true
+judged_ends r there there_now is k = ap (λ b. int_eq (whole_in_cell (column r 4)) (pos 0) || b) (sym is) ∙ k.ends
+
+pub judged_database : (trees : Trees) (r : Row) (there : Bool) → there ≡ list_any (is_at_sequence (number_of r) (whole_in_cell (column r 4))) (trees docs_tree) → (judged : Result (Option Wrong) CheckFault)
+    → (HasDatabaseCells r → IfOk judged (Judges (IsEndedDatabase r there))) → IfOk judged (λ found. HasDatabaseCells r → Judges (IsSoundDatabase trees r) found)
+judged_database trees r there is (Err e) judge = tt
+judged_database trees r there is (Ok (Some w)) judge = λ cells k. judge cells (record { row = k.row; ends = ap (λ b. int_eq (whole_in_cell (column r 4)) (pos 0) || b) is ∙ k.ends })
+judged_database trees r there is (Ok None) judge = λ cells. let k = judge cells in record { row = k.row; ends = judged_ends r there _ is k }

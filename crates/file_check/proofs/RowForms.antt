@@ -2,17 +2,20 @@
 use Rattle.tables.proofs.Common.{Blob, Bool, Int, Real, int_lt, ints, negsuc, IsBody, IsDatabaseRow, IsTrue, List, None, Null, Option, Row, Some, Text, Value, [], ap, arith, body_cell, bytes, canonical, column, cond, count_in_cell, db_of, entry_of, false, flag, id_of, is_database_name, is_document_id, is_gone_row, is_held, is_held_deleted, is_set, json_in_cell, sequence_of_database, length, local_of, name_of, nat_tests, number_of, suc, option_map, pos, refl, security_of, security_text, sequence_of_row, subst, sym, true, read_or_null, Err, whole_in_cell, winner_text, ℕ, ℤ, ◌<◌, ◌^◌, ◌∙◌, ◌∷◌, ◌≡◌, ◌≢◌, ◌≤◌, ◌⊎◌, inl, inr, IsUtf8}
 use Rattle.std.proofs.lemmas.Bool.{false≢true}
 use Rattle.std.proofs.lemmas.List.{get_or_past}
-use Rattle.std.specs.Prelude.{int_le, is_none, zero}
+use Rattle.std.specs.Ordering.{int_eq}
+use Rattle.std.specs.Prelude.{int_le, is_none, zero, ◌||◌}
 use Rattle.couch_json.specs.Lawful as json
 use Rattle.couch_json.specs.Value as json_value
 use Rattle.couch_json.specs.Reading.{reading}
 use Rattle.couch_json.specs.declared.fault.JsonFault.{JsonFault}
 use Rattle.couch_json.proofs.ReadingBack.{reading-canonical}
 use Rattle.policy.specs.Security.{is_security}
+use Rattle.tree.specs.DocumentId.{is_local_id}
+use Rattle.tree.specs.Revision.{greatest_number}
 use Rattle.tree.specs.declared.entry.Held.{Held}
 use Rattle.tree.proofs.Shown.{inside}
 use Rattle.tree.specs.History.{HistoryContent}
-use Rattle.file_check.specs.inner.Rows.{IsHeldSo, IsLawfulDocument, IsLawfulLocal, IsOwnedDocument, IsWinning, ShowsNothing}
+use Rattle.file_check.specs.inner.Rows.{IsEndedDatabase, IsHeldSo, IsIdOfDocument, IsIdOfLocal, IsLawfulDocument, IsLawfulLocal, IsOwnedDocument, IsWinning, ShowsNothing}
 use Rattle.file_check.specs.Tables.{HasDatabaseCells, HasDocumentCells, HasHeldLeaves, HasLocalCells}
 use Rattle.file_check.specs.inner.Texts.{IsBodyText, IsSecurityText}
 
@@ -43,35 +46,53 @@ module _ (r : Row) (name text : List ℕ) (name_is : column r 2 ≡ Blob name) (
 pub database_uncounted : (r : Row) → ((n : ℕ) → column r 4 ≢ Int (pos n)) → ¬ IsDatabaseRow r
 database_uncounted r out k = out (sequence_of_database r) (ap (λ x. column x 4) k.is)
 
+-- ---- where databases end
+
+pub ended_so : (r : Row) (there : Bool) → IsDatabaseRow r → (int_eq (whole_in_cell (column r 4)) (pos 0) || there) ≡ true → IsEndedDatabase r there
+ended_so r there row ends = record { row = row; ends = ends }
+
+pub ended_unsound : (r : Row) (there : Bool) → ¬ IsDatabaseRow r → ¬ IsEndedDatabase r there
+ended_unsound r there out k = out k.row
+
+pub ended_nowhere : (r : Row) (there : Bool) → (int_eq (whole_in_cell (column r 4)) (pos 0) || there) ≡ false → ¬ IsEndedDatabase r there
+ended_nowhere r there out k = false≢true (sym out ∙ k.ends)
+
 -- ---- local documents
 
 module _ (r : Row) (id text : List ℕ) (id_is : column r 2 ≡ Blob id) (text_is : column r 4 ≡ Text text) where
-  pub local_sound : HasLocalCells r → (n : ℕ) → column r 3 ≡ Int (pos n) → n < 2 ^ 32 → is_document_id id ≡ true → IsBodyText text → IsLawfulLocal r
-  local_sound cells n number small named k =
+  pub local_sound : HasLocalCells r → (n : ℕ) → column r 3 ≡ Int (pos n) → 1 ≤ n → n ≤ greatest_number → IsIdOfLocal id → IsBodyText text → IsLawfulLocal r
+  local_sound cells n number first last named k =
       let spelled : bytes (column r 4) ≡ canonical (local_of r).body = ap bytes text_is ∙ k.canonical ∙ ap (λ v. canonical (json_in_cell v)) (sym text_is) in
       let counted : whole_in_cell (column r 3) ≡ pos (local_of r).number = ap whole_in_cell number ∙ ap pos (sym (ap count_in_cell number)) in
       record {
         is = cells ∙ (λ i. Int (number_of r) ∷ Int (db_of r) ∷ Blob (id_of r) ∷ Int (counted i) ∷ Text (spelled i) ∷ []);
-        named = ap is_document_id (ap bytes id_is) ∙ named;
-        small = subst (λ m. m < 2 ^ 32) (sym (ap count_in_cell number)) small;
-        body = subst (λ v. IsBody (json_in_cell v)) (sym text_is) k.body;
+        named = ap is_document_id (ap bytes id_is) ∙ named.named;
+        local = record {
+          named = ap is_local_id (ap bytes id_is) ∙ named.local;
+          first = subst (λ m. 1 ≤ m) (sym (ap count_in_cell number)) first;
+          last = subst (λ m. m ≤ greatest_number) (sym (ap count_in_cell number)) last;
+          body = subst (λ v. IsBody (json_in_cell v)) (sym text_is) k.body;
+        };
       }
 
-  pub local_unnamed : is_document_id id ≡ false → ¬ IsLawfulLocal r
-  local_unnamed out k = false≢true (sym out ∙ ap is_document_id (sym (ap bytes id_is)) ∙ k.named)
+  pub local_unnamed : ¬ IsIdOfLocal id → ¬ IsLawfulLocal r
+  local_unnamed out k = out (record { named = ap is_document_id (sym (ap bytes id_is)) ∙ k.named; local = ap is_local_id (sym (ap bytes id_is)) ∙ k.local.named })
 
   pub local_unspelled : ¬ IsBodyText text → ¬ IsLawfulLocal r
   local_unspelled out k =
       out (record {
         canonical = sym (ap bytes text_is) ∙ ap (λ x. bytes (column x 4)) k.is ∙ ap (λ v. canonical (json_in_cell v)) text_is;
-        body = subst (λ v. IsBody (json_in_cell v)) text_is k.body;
+        body = subst (λ v. IsBody (json_in_cell v)) text_is k.local.body;
       })
 
 pub local_uncounted : (r : Row) → ((n : ℕ) → column r 3 ≢ Int (pos n)) → ¬ IsLawfulLocal r
 local_uncounted r out k = out (local_of r).number (ap (λ x. column x 3) k.is)
 
-pub local_too_great : (r : Row) (n : ℕ) → column r 3 ≡ Int (pos n) → 2 ^ 32 ≤ n → ¬ IsLawfulLocal r
-local_too_great r n is great k = let same : count_in_cell (column r 3) ≡ n = ap count_in_cell is in omega (arith, great, k.small, same)
+pub local_too_small : (r : Row) (n : ℕ) → column r 3 ≡ Int (pos n) → n < 1 → ¬ IsLawfulLocal r
+local_too_small r n is small k = let same : count_in_cell (column r 3) ≡ n = ap count_in_cell is in omega (arith, small, k.local.first, same)
+
+pub local_too_great : (r : Row) (n : ℕ) → column r 3 ≡ Int (pos n) → greatest_number < n → ¬ IsLawfulLocal r
+local_too_great r n is great k = let same : count_in_cell (column r 3) ≡ n = ap count_in_cell is in omega (arith, great, k.local.last, same)
 
 -- ---- documents
 
@@ -91,14 +112,15 @@ flag_is_count : (v : Value) (b : Bool) → v ≡ flag b → ((n : ℕ) → v ≢
 flag_is_count v true is none = none 1 is
 flag_is_count v false is none = none 0 is
 
-pub document_sound : (r : Row) (id : List ℕ) (n m : ℕ) → HasDocumentCells r → column r 2 ≡ Blob id → column r 3 ≡ Int (pos n) → column r 5 ≡ Int (pos m) → m ≤ 1 → 1 ≤ n → IsTrue (is_document_id id) → IsUtf8 id → IsLawfulDocument r
-document_sound r id n m cells id_is number mark small low named text =
+pub document_sound : (r : Row) (id : List ℕ) (n m : ℕ) → HasDocumentCells r → column r 2 ≡ Blob id → column r 3 ≡ Int (pos n) → column r 5 ≡ Int (pos m) → m ≤ 1 → 1 ≤ n → IsIdOfDocument id → IsLawfulDocument r
+document_sound r id n m cells id_is number mark small low named =
     let counted : whole_in_cell (column r 3) ≡ pos (sequence_of_row r) = ap whole_in_cell number ∙ ap pos (sym (ap count_in_cell number)) in
     let flagged : Int (whole_in_cell (column r 5)) ≡ flag (is_gone_row r) = ap (λ v. Int (whole_in_cell v)) mark ∙ sym mark ∙ mark_is (column r 5) m mark small in
     record {
       is = cells ∙ (λ i. Int (number_of r) ∷ Int (db_of r) ∷ Blob (id_of r) ∷ Int (counted i) ∷ Text (winner_text r) ∷ flagged i ∷ []);
-      named = ap is_document_id (ap bytes id_is) ∙ named;
-      text = subst IsUtf8 (sym (ap bytes id_is)) text;
+      named = ap is_document_id (ap bytes id_is) ∙ named.named;
+      apart = ap is_local_id (ap bytes id_is) ∙ named.apart;
+      text = subst IsUtf8 (sym (ap bytes id_is)) named.text;
       positive = subst (λ k. 1 ≤ k) (sym (ap count_in_cell number)) low;
     }
 
@@ -114,8 +136,9 @@ document_overmarked r m is over k = let low = flag_small (is_gone_row r) m (sym 
 pub document_unnumbered : (r : Row) (n : ℕ) → column r 3 ≡ Int (pos n) → n < 1 → ¬ IsLawfulDocument r
 document_unnumbered r n is low k = let same : count_in_cell (column r 3) ≡ n = ap count_in_cell is in omega (arith, low, k.positive, same)
 
-pub document_unnamed : (r : Row) (id : List ℕ) → column r 2 ≡ Blob id → ¬ (IsTrue (is_document_id id) × IsUtf8 id) → ¬ IsLawfulDocument r
-document_unnamed r id is out k = out (ap is_document_id (sym (ap bytes is)) ∙ k.named, subst IsUtf8 (ap bytes is) k.text)
+pub document_unnamed : (r : Row) (id : List ℕ) → column r 2 ≡ Blob id → ¬ IsIdOfDocument id → ¬ IsLawfulDocument r
+document_unnamed r id is out k =
+    out (record { named = ap is_document_id (sym (ap bytes is)) ∙ k.named; apart = ap is_local_id (sym (ap bytes is)) ∙ k.apart; text = subst IsUtf8 (ap bytes is) k.text })
 
 -- ---- what is held of a revision
 
@@ -259,10 +282,12 @@ past_is_null r at past = get_or_past r at Null past
 -- ---- what says of each part of a row whether it is sound
 pub ruleset database_forms = (database_sound, database_uncounted, database_unnamed, database_unspelled)
 
+pub ruleset ended_forms = (ended_so, ended_unsound, ended_nowhere)
+
 pub ruleset document_forms = (document_sound, document_uncounted, document_unmarked, document_overmarked, document_unnumbered, document_unnamed)
 
 pub ruleset owner_forms = (owned_so, owned_nowhere, owned_not_within, owned_not_winning, owned_not_held)
 
-pub ruleset local_forms = (local_sound, local_uncounted, local_too_great, local_unnamed, local_unspelled)
+pub ruleset local_forms = (local_sound, local_uncounted, local_too_small, local_too_great, local_unnamed, local_unspelled)
 
 pub ruleset held_forms = (held_none, held_some, held_uncounted, held_otherwise, held_unmarked, held_overmarked, held_untold, held_unspelled)

@@ -11,8 +11,8 @@ use Rattle.tables.proofs.Queries.{first_program, program_on}
 use Rattle.tables.proofs.RevisionStatements.{revisions_are, revisions_text}
 use Rattle.tables.proofs.Tables.{one_numbered, one_of}
 use Rattle.tables.proofs.Writes.{IsCommand}
-use Rattle.file_check.specs.Tables.{HasDocumentCells, HasRevisionCells, HasVersionCells, IsShaped, tree_of}
-use Rattle.file_check.specs.inner.Queries.{HasCells, is_numbered, is_stored, shown_length, shown_numbered, shown_stored}
+use Rattle.file_check.specs.Tables.{HasDocumentCells, HasRevisionCells, HasVersionCells, IsShaped, is_at_sequence, tree_of}
+use Rattle.file_check.specs.inner.Queries.{HasCells, is_numbered, is_stored, shown_length, shown_numbered, shown_sequence, shown_stored}
 use Rattle.file_check.specs.inner.Statements.{behind_statement, first_statement}
 use Rattle.file_check.specs.inner.Walks.{is_behind, next_rows}
 use Rattle.file_check.specs.declared.layout.checked.Checked.{Checked}
@@ -146,6 +146,16 @@ pub length_is : IsCommand schema length_text (Select (program_on dbs_tree by_num
 unfolding understood everything
 length_is = record { is = refl; plain = (refl, refl); unlisted = refl }
 
+abbrev sequence_text : List ℕ
+sequence_text = codes "SELECT seq FROM docs WHERE db = ?1 AND seq = ?2"
+
+abbrev by_sequence : List Term
+by_sequence = compares Eq 1 0 ∷ compares Eq 3 1 ∷ []
+
+pub sequence_is : IsCommand schema sequence_text (Select (program_on docs_tree by_sequence (col 1 3 ∷ []) []) (codes "seq" ∷ []))
+unfolding understood everything
+sequence_is = record { is = refl; plain = (refl, refl); unlisted = refl }
+
 abbrev pub stored_text : List ℕ
 stored_text = codes "SELECT n FROM revs WHERE db = ?1 AND id = ?2 AND n = ?3 AND hash = ?4"
 
@@ -178,6 +188,14 @@ revisions_keyed old fit = record {
   rising = fit.shaped.kept.revs.rising;
 }
 
+tests_sequence : (db sequence : ℤ) (rows : List Row) → AllByRecursion HasDocumentCells rows
+    → AllByRecursion (λ r. list_all (holds ((Int db ∷ Int sequence ∷ []) ∷ r ∷ [])) by_sequence ≡ is_at_sequence db sequence r) rows
+tests_sequence db sequence rows all =
+    all_weaker HasDocumentCells (λ r. list_all (holds ((Int db ∷ Int sequence ∷ []) ∷ r ∷ [])) by_sequence ≡ is_at_sequence db sequence r)
+    (λ r k.
+    then_term (int_by Eq (column r 1) (db_of r) db (ap (λ x. column x 1) k))
+    (last_term (int_by Eq (column r 3) (whole_in_cell (column r 3)) sequence (ap (λ x. column x 3) k)))) rows all
+
 tests_stored : (db : ℤ) (id : List ℕ) (n : ℤ) (hash : List ℕ) (rows : List Row) → AllByRecursion HasRevisionCells rows
     → AllByRecursion (λ r. list_all (holds ((Int db ∷ Blob id ∷ Int n ∷ Text hash ∷ []) ∷ r ∷ [])) by_stored ≡ is_stored db id n hash r) rows
 tests_stored db id n hash rows all =
@@ -206,6 +224,10 @@ module _ {X E : Type 0} (old new : State) (fit : IsShaped old.now) where
       → IfOk r (λ x. items x ≡ map listed_document (filter (is_row_of_document db id) (old.now.trees docs_tree)))
   finds_document_row db id =
       finds_one old new fit.schema_is document_is (Int db ∷ Blob id ∷ []) (is_row_of_document db id) listed_document refl (λ r. refl) (tests_id db id [] _ (documents_keyed old fit)) (one_of (old.now.trees docs_tree) fit.shaped.ids_apart db id)
+
+  pub finds_sequence : (db sequence : ℤ) (r : Result X E) (items : X → List Row) → IfOk r (λ x. Shown sequence_text (Int db ∷ Int sequence ∷ []) old new (items x))
+      → IfOk r (λ x. IsPermutation (map shown_sequence (filter (is_at_sequence db sequence) (old.now.trees docs_tree))) (items x))
+  finds_sequence db sequence = finds_where old new fit.schema_is sequence_is (Int db ∷ Int sequence ∷ []) (is_at_sequence db sequence) shown_sequence refl (λ s. refl) (tests_sequence db sequence (old.now.trees docs_tree) fit.shaped.docs)
 
   pub finds_history : (db : ℤ) (id : List ℕ) (r : Result X E) (items : X → List Row) → IfOk r (λ x. Shown revisions_text (Int db ∷ Blob id ∷ []) old new (items x))
       → IfOk r (λ x. IsPermutation (map shown_revision (filter (is_row_of_document db id) (old.now.trees revs_tree))) (items x))

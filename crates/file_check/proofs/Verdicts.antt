@@ -8,12 +8,12 @@ use Rattle.index.specs.Layout.{IsDeclarationRow}
 use Rattle.index.specs.Rows.{declaration_row, design_of, database_of_declaration, index_name_of_row}
 use Rattle.tables.specs.Rows.{number_of}
 use Rattle.tables.specs.Schema.{decls_tree}
-use Rattle.transactions.specs.Indexing.{IsIndexedStore}
+use Rattle.transactions.specs.Indexing.{IsCommittedStore, IsIndexedStore}
 use Rattle.file_check.specs.Checks.{Checks, IsSame}
 use Rattle.file_check.specs.Counting.{CountsRows}
 use Rattle.file_check.specs.Indexes.{AreIndexesChecked, HasDeclarationCells, IsCheckable, IsIndexFinding}
 use Rattle.file_check.specs.Inspecting.{Goes, Inspects}
-use Rattle.file_check.specs.Tables.{IsShaped}
+use Rattle.file_check.specs.Tables.{IsRestingStore, IsShaped}
 use Rattle.file_check.specs.Verdicts.{AreAllKept}
 use Rattle.file_check.specs.declared.finding.CheckFault.{CheckFault}
 use Rattle.file_check.specs.inner.Counted.{HasOurSchema}
@@ -37,12 +37,16 @@ module _ {S : Type 0} (g : Ghosts S) (old mid : Held S) (tables : Found) (none :
   same_tables : HasCleanDisk (state g mid) → IsSame (state g old) (state g mid)
   same_tables clean = subst (λ r. OnOk r (IsSame (state g old) (state g mid))) none (stays clean)
 
+  -- the tables are those of a store between two calls
+  resting : HasCleanDisk (state g mid) → IsRestingStore (state g old).now
+  resting clean = subst (λ r. IfOk r (IsStoreChecked (state g old).now)) none (sound clean has)
+
   -- the rows of indexes can be checked
   can_check : HasCleanDisk (state g mid) → IsCheckable (state g old).now
   can_check clean =
       let up = (subst (λ (r : Found). IfOk r (λ found. found ≡ None → IsTrue (state g old).is_open)) none (served clean)) refl in
       record {
-        store = subst (λ r. IfOk r (IsStoreChecked (state g old).now)) none (sound clean has);
+        store = (resting clean).store;
         cells = index_cells (state g old).now has (subst (λ s. IsSound s (state g old).now.trees) has (live up).0) kept.decls kept.entries;
       }
 
@@ -74,12 +78,12 @@ module _ {S : Type 0} (g : Ghosts S) (old mid : Held S) (tables : Found) (none :
           let was = counted.asks.clean clean in
           subst (λ (d : Database). CountsRows d.trees counts) (same_after was).now (counted.found clean (has_after was))
 
-      pub indexed_store : HasCleanDisk (state g new) → IsIndexedStore (state g old).now
-      indexed_store clean =
+      pub committed_store : HasCleanDisk (state g new) → IsCommittedStore (state g old).now
+      committed_store clean =
           let was = counted.asks.clean clean in
           let before = checks.asks.clean was in
           let told = (subst (Checks g IsCheckable mid after AreIndexesChecked) none' checks).tells was (fit before) in
-          subst IsIndexedStore (same_tables before).now (record { store = (fit before).store; indexed = told })
+          record { rows = subst IsIndexedStore (same_tables before).now (record { store = (fit before).store; indexed = told }); ends = (resting before).ends }
 
 -- what SQLite keeps of the rows of indexes those of a store have
 checkable : (d : Database) → IsIndexedStore d → IsCheckable d
@@ -112,11 +116,11 @@ module _ {S : Type 0} (g : Ghosts S) (old mid new : Held S) (tables indexes : Fo
       subst (λ (d : Database). IsIndexFinding d.trees f) still.0.now_is found
 
   -- they are not those of a store
-  pub index_refuted : ¬ IsIndexedStore (state g old).now
-  index_refuted k = not_indexed (state g old).now.trees f (told k.store.schema_is (checkable (state g old).now k)) k.indexed
+  pub index_refuted : ¬ IsCommittedStore (state g old).now
+  index_refuted k = let rows = k.rows in not_indexed (state g old).now.trees f (told rows.store.schema_is (checkable (state g old).now rows)) rows.indexed
 
   -- and the row is named
   pub index_named : old.schema ≡ schema → AreAllKept (state g old).now.trees → IsLive (state g old) → ((found : Option Finding) → tables ≡ Ok found → HasCleanDisk (state g mid) → IsStoreChecked (state g old).now found)
       → IsIndexFinding (state g old).now.trees f
   index_named has kept live sound =
-      told has (record { store = sound None none was_clean; cells = index_cells (state g old).now has (subst (λ s. IsSound s (state g old).now.trees) has (live was_open).0) kept.decls kept.entries })
+      told has (record { store = (sound None none was_clean).store; cells = index_cells (state g old).now has (subst (λ s. IsSound s (state g old).now.trees) has (live was_open).0) kept.decls kept.entries })

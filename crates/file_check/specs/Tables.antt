@@ -1,7 +1,8 @@
 -- What a check of the tables decides: what SQLite says of the rows of each table, and when a row is sound.
 -- This server's own, over `Layout` of `tables`.
-use Rattle.std.specs.Prelude.{◌≡◌, ◌≢◌, ◌⊎◌, ℕ, ℤ, IsTrue, List, [], ◌∷◌, length, is_some, Option, MatchOption}
-use Rattle.std.specs.List.{AllByRecursion}
+use Rattle.std.specs.Prelude.{◌≡◌, ◌≢◌, ◌⊎◌, ◌&&◌, ◌||◌, ℕ, ℤ, pos, Bool, true, IsTrue, List, [], ◌∷◌, length, is_some, Option, MatchOption}
+use Rattle.std.specs.List.{AllByRecursion, list_any}
+use Rattle.std.specs.Ordering.{int_eq}
 use Rattle.sqlite.specs.Effect.{Database}
 use Rattle.sqlite_value.specs.declared.value.Value.{Value}
 use Rattle.sqlite_value.specs.declared.value.Value.TheVariants.{Null, Int, Text, Blob}
@@ -9,8 +10,9 @@ use Rattle.sqlite_value.specs.Order.{Row, bytes, column}
 use Rattle.sqlite_trees.specs.Tree.{Trees, IsAscending}
 use Rattle.tree.specs.History.{HistoryContent, held_of, is_leaf}
 use Rattle.tree.specs.Revision.{Revision}
-use Rattle.tables.specs.Layout.{AreNumbered, version_row, IsDatabaseRow, IsDocumentRow, IsLocalRow, IsRevisionRow}
-use Rattle.tables.specs.Rows.{db_of, history_in_rows, id_of, name_of, number_of, security_text, whole_in_cell, winner_text}
+use Rattle.store.specs.Lawful.{AllEndAtLast}
+use Rattle.tables.specs.Layout.{AreNumbered, version_row, IsDatabaseRow, IsDocumentRow, IsLocalRow, IsRevisionRow, IsStore}
+use Rattle.tables.specs.Rows.{contents_in, db_of, history_in_rows, id_of, is_row_of_database, name_of, number_of, security_text, whole_in_cell, winner_text}
 use Rattle.tables.specs.Schema.{schema, meta_tree, dbs_tree, docs_tree, revs_tree, locals_tree}
 use Rattle.file_check.specs.Indexes.{IsFinding}
 use Rattle.file_check.specs.declared.finding.Finding.{Finding}
@@ -81,6 +83,20 @@ pub record IsShaped (db : Database) : Type 0 where
 abbrev pub HasHeldLeaves : HistoryContent → Type 0
 HasHeldLeaves h = (r : Revision) → IsTrue (is_leaf h r) → IsTrue (is_some (held_of h r))
 
+-- the row of a document of this database at this sequence, as it is stored
+abbrev pub is_at_sequence : ℤ → ℤ → Row → Bool
+is_at_sequence db sequence r = is_row_of_database db r && int_eq (whole_in_cell (column r 3)) sequence
+
+-- the sequence of this row of a database is 0, or some document of it is at this sequence
+abbrev pub has_last_row : Trees → Row → Bool
+has_last_row trees r =
+    int_eq (whole_in_cell (column r 4)) (pos 0) || list_any (is_at_sequence (number_of r) (whole_in_cell (column r 4))) (trees docs_tree)
+
+-- the row of a database, whose sequence is that of its last document, or 0
+pub record IsSoundDatabase (trees : Trees) (r : Row) : Type 0 where
+  pub row : IsDatabaseRow r
+  pub ends : has_last_row trees r ≡ true
+
 -- the row of a document, whose leaves are held
 pub record IsSoundDocument (trees : Trees) (r : Row) : Type 0 where
   pub row : IsDocumentRow trees r
@@ -97,7 +113,7 @@ tree_of Locals = locals_tree
 
 -- the row is sound
 abbrev pub IsSoundRow : Checked → Trees → Row → Type 0
-IsSoundRow Databases trees r = IsDatabaseRow r
+IsSoundRow Databases trees r = IsSoundDatabase trees r
 IsSoundRow Documents trees r = IsSoundDocument trees r
 IsSoundRow Revisions trees r = IsRevisionRow trees r
 IsSoundRow Locals trees r = IsLocalRow trees r
@@ -127,6 +143,13 @@ pub record HasSoundDocuments (trees : Trees) : Type 0 where
 pub record HasSoundLocals (trees : Trees) : Type 0 where
   pub before : HasSoundDocuments trees
   pub locals : AreSoundRows Locals trees
+
+-- ---- what is decided
+
+-- the tables are those of a store between two calls, whatever the rows of its indexes are
+pub record IsRestingStore (db : Database) : Type 0 where
+  pub store : IsStore db
+  pub ends : ∥ AllEndAtLast (contents_in db.trees) ∥₁
 
 -- ---- what is found
 

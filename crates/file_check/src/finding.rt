@@ -85,7 +85,7 @@ pub enum Wrong {
     Text = 4,
     /// What the row belongs to has no row.
     Unowned = 5,
-    /// A sequence is none of its database.
+    /// A sequence is none of its database, or that of a database is not its last document's.
     Sequence = 6,
     /// The winner, or its mark, is another.
     Winner = 7,

@@ -6,6 +6,7 @@ mod checking;
 mod databases;
 mod documents;
 mod finding_rows;
+mod ids;
 mod locals;
 mod revisions;
 mod statements;
@@ -14,11 +15,10 @@ mod texts;
 ghost use Rattle.std.specs.Prelude.{◌≡◌, ◌≢◌, IfOk, IfSome, IsOkAnd, IsSomeAnd, IsTrue, MatchOption, None, OnOk};
 ghost use Rattle.sqlite.specs.Held.{state};
 ghost use Rattle.sqlite.specs.State.{HasCleanDisk, IsLive};
-ghost use Rattle.tables.specs.Layout.{IsStore};
 ghost use Rattle.tables.specs.Schema.{schema};
 ghost use Rattle.file_check.specs.Checks.{IsSame};
 ghost use Rattle.file_check.specs.Inspecting.{Goes};
-ghost use Rattle.file_check.specs.Tables.{AreKept, AreTablesChecked, HasSoundLocals, IsShaped, IsTableFinding};
+ghost use Rattle.file_check.specs.Tables.{AreKept, AreTablesChecked, HasSoundLocals, IsRestingStore, IsShaped, IsTableFinding};
 
 use crate::comparing::find_difference;
 use crate::finding::{CheckFault, Finding, Wrong};
@@ -32,12 +32,12 @@ pub fn check_tables<S: Alter>(
     alloc: Global,
     conn: &mut Connection<S>,
 ) -> Result<Option<Finding>, CheckFault>
-    // Where nothing is found, the tables are those of a store, and a finding names a row that no store has: if they
-    // have the columns of this schema, and their rows are kept as SQLite keeps what it is given.
+    // Where nothing is found, the tables are those of a store between two calls, and a finding names a row that no
+    // such store has: if they have the columns of this schema, and their rows are kept as SQLite keeps what it is given.
     ensures sound { HasCleanDisk (state S.Store conn.new) → conn.old.schema ≡ schema → AreKept (state S.Store conn.old).now.trees
-        → IfOk result (λ found. MatchOption found (IsStore (state S.Store conn.old).now) (IsTableFinding (state S.Store conn.old).now.trees)) }
+        → IfOk result (λ found. MatchOption found (IsRestingStore (state S.Store conn.old).now) (IsTableFinding (state S.Store conn.old).now.trees)) }
     // Where something is found they are not, whatever their columns are.
-    ensures unsound { HasCleanDisk (state S.Store conn.new) → IfOk result (λ found. IfSome found (λ _. ¬ IsStore (state S.Store conn.old).now)) }
+    ensures unsound { HasCleanDisk (state S.Store conn.new) → IfOk result (λ found. IfSome found (λ _. ¬ IsRestingStore (state S.Store conn.old).now)) }
     // Nothing is found only where the schema is this server's, and in an open connection. Another schema is always told, and nothing is read.
     ensures ours { IfOk result (λ found. found ≡ None → conn.old.schema ≡ schema) }
     ensures served { HasCleanDisk (state S.Store conn.new) → IfOk result (λ found. found ≡ None → IsTrue (state S.Store conn.old).is_open) }

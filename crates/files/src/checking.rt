@@ -4,7 +4,7 @@ ghost use Rattle.std.specs.Prelude.{◌≡◌, ◌≢◌, ◌⊎◌, IfErr, IfOk
 ghost use Rattle.sqlite.specs.Held.{state};
 ghost use Rattle.sqlite.specs.State.{HasCleanDisk};
 ghost use Rattle.tables.specs.Schema.{schema};
-ghost use Rattle.transactions.specs.Indexing.{IsIndexedStore};
+ghost use Rattle.transactions.specs.Indexing.{IsCommittedStore};
 ghost use Rattle.file_check.specs.Checks.{IsSame};
 ghost use Rattle.file_check.specs.Verdicts.{AreAllKept};
 
@@ -64,9 +64,9 @@ pub fn check_store<R: Print + AllocGlobal, S: Alter>(
     // Where the disk returned what was written, 0 says that the tables are a store, with the rows of indexes that a rebuild would make, if
     // rows are kept as SQLite keeps what it is given. The connection is as it was then.
     ensures sound { IfOk result (λ status. status ≡ 0 → HasCleanDisk (state S.Store conn.new)
-        → AreAllKept (state S.Store conn.old).now.trees → IsIndexedStore (state S.Store conn.old).now) }
+        → AreAllKept (state S.Store conn.old).now.trees → IsCommittedStore (state S.Store conn.old).now) }
     // 5 says that they are none, without the second.
-    ensures unsound { IfOk result (λ status. status ≡ 5 → HasCleanDisk (state S.Store conn.new) → ¬ IsIndexedStore (state S.Store conn.old).now) }
+    ensures unsound { IfOk result (λ status. status ≡ 5 → HasCleanDisk (state S.Store conn.new) → ¬ IsCommittedStore (state S.Store conn.old).now) }
     ensures stays { IfOk result (λ _. HasCleanDisk (state S.Store conn.new) → AreAllKept (state S.Store conn.old).now.trees
         → IsSame (state S.Store conn.old) (state S.Store conn.new)) }
     // Where the schema is another it is 5, and nothing is read.

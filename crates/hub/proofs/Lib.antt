@@ -1,5 +1,6 @@
 pub mod Rests
 pub mod Arrivals
+pub mod Failures
 pub mod Serving
 pub mod ServiceBytes
 pub mod ServiceLemmas

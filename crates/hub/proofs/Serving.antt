@@ -1,5 +1,5 @@
 -- Requests answered one after another, and what the end of a stream adds.
-use Rattle.std.proofs.Common.{◌≡◌, ◌≢◌, ◌∙◌, ℕ, ◌+◌, ◌<◌, Bool, true, false, List, [], ◌∷◌, ◌++◌, get_or, length, map, take, refl, sym, ap, subst}
+use Rattle.std.proofs.Common.{◌≡◌, ◌≢◌, ◌∙◌, ℕ, ◌+◌, ◌<◌, Bool, true, false, List, [], ◌∷◌, ◌++◌, get_or, length, map, take, refl, sym, ap, subst, Option}
 use Rattle.std.proofs.lemmas.List.{map_more}
 use Rattle.auth.specs.Callers.{Configuration}
 use Rattle.couch_http.specs.Cutting as cutting
@@ -17,6 +17,7 @@ use Rattle.hub.specs.Answering.{RepliesInOrder, StoreSteps, replies_of}
 use Rattle.hub.specs.Connections.{ConnectionTable}
 use Rattle.hub.specs.Cutters.{IsCut, IsEnding, refusal_at}
 use Rattle.hub.specs.Endings.{is_last, last_replies}
+use Rattle.hub.specs.Failing.{FailedRequest, Tells, failures_in}
 use Rattle.hub.specs.Feeding.{IsFed}
 
 run_push : {S : Type 0} (step : S → Message → Reply → S → Type 0) (before : S) (ss : List (Stepped S)) (s : Stepped S) → IsRun step before ss
@@ -117,11 +118,12 @@ last_is (Fault g) (faulty f) is true on off = refl
 last_is (Fault g) (faulty f) is false on off = absurd (let e = off refl in cc)
 
 -- a piece was cut, its requests answered, and the end of its stream too
-pub fed : {S : Type 0} (g : Ghosts S) (before after : Serving S) (old new : ConnectionTable) (conn : ℕ) (piece : List ℕ) (cut : Cut) (answers list : List Reply) (last : Bool)
+pub fed : {S : Type 0} (g : Ghosts S) (before after : Serving S) (old new : ConnectionTable) (conn : ℕ) (piece : List ℕ) (cut : Cut) (answers list : List Reply) (last : Bool) (told now : Option (List FailedRequest))
     → IsCut old conn piece cut new → (g.is_honest after.store → RepliesInOrder g before.configuration before.store (cutting.messages_of cut) answers after.store)
     → list ≡ answers ++ refusal_at cut.ending → (last ≡ true → cut.ending ≢ Open) → (last ≡ false → cut.ending ≡ Open)
-    → IsFed g (record { node = before; connections = old }) conn piece list last (record { node = after; connections = new })
-fed g before after old new conn piece cut answers list last t serves added on off =
+    → Tells told now (failures_in (cutting.messages_of cut) answers)
+    → IsFed g (record { node = before; connections = old; failures = told }) conn piece list last (record { node = after; connections = new; failures = now })
+fed g before after old new conn piece cut answers list last told now t serves added on off tells =
     record {
       rest = t.rest;
       was = t.was;
@@ -133,4 +135,5 @@ fed g before after old new conn piece cut answers list last t serves added on of
       serves = serves;
       left = t.left;
       ends = last_is cut.ending t.end t.ending last on off;
+      tells = tells;
     }

@@ -2,6 +2,7 @@ pub mod Connections
 pub mod Endings
 pub mod Arrival
 pub mod Answering
+pub mod Failing
 pub mod Feeding
 pub mod Cutters
 pub mod Faults

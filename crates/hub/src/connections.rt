@@ -1,5 +1,6 @@
 use crate::answering::{add_refusal, answer_all};
 use crate::cutters::{Cutters, add_cutter, cut_piece, remove_cutter};
+use crate::failure_log::{FailureLog, NoLog};
 use crate::fault::HubFault;
 use crate::replies::Replies;
 use couch_http::{Cut, Cutter, Ending, Response};
@@ -110,8 +111,8 @@ impl Connections {
         conn: u64,
         piece: &[u8],
     ) -> Result<Replies, HubFault>
-        ensures fed { IfOk result (λ replies. IsFed S.Store (record { node = node.old; connections = self.old }) conn piece.now
-            replies.list.items replies.last (record { node = node.new; connections = self.new })) }
+        ensures fed { IfOk result (λ replies. IsFed S.Store (record { node = node.old; connections = self.old; failures = None }) conn piece.now
+            replies.list.items replies.last (record { node = node.new; connections = self.new; failures = None })) }
         ensures configuration { node.new.configuration ≡ node.old.configuration }
         ensures onward { GoesOn S.Store node.old.store node.new.store }
 
@@ -121,9 +122,31 @@ impl Connections {
         ensures closed { IsErrOf result HubFault.Closed ↔ ((was_opened self.old conn ≡ true) × (rest_on self.old conn ≡ None)) }
         ensures refused { IfErr result (λ fault. fault ≢ HubFault.Full) }
     {
+        self.feed_and_log(node, &mut NoLog, conn, piece)
+    }
+
+    /// Takes a piece as `feed` does, and tells the log of each request whose reply is 500.
+    pub fn feed_and_log<S: Store + Drop, L: FailureLog>(
+        &mut self,
+        node: &mut Node<S>,
+        log: &mut L,
+        conn: u64,
+        piece: &[u8],
+    ) -> Result<Replies, HubFault>
+        ensures fed { IfOk result (λ replies. IsFed S.Store (record { node = node.old; connections = self.old; failures = L.told log.old }) conn piece.now
+            replies.list.items replies.last (record { node = node.new; connections = self.new; failures = L.told log.new })) }
+        ensures configuration { node.new.configuration ≡ node.old.configuration }
+        ensures onward { GoesOn S.Store node.old.store node.new.store }
+
+        // Nothing changes at a refusal.
+        ensures err { OnErr result ((self.new ≡ self.old) × (node.new ≡ node.old) × (L.told log.new ≡ L.told log.old)) }
+        ensures unknown { IsErrOf result HubFault.Unknown ↔ (was_opened self.old conn ≡ false) }
+        ensures closed { IsErrOf result HubFault.Closed ↔ ((was_opened self.old conn ≡ true) × (rest_on self.old conn ≡ None)) }
+        ensures refused { IfErr result (λ fault. fault ≢ HubFault.Full) }
+    {
         let mut list = Vec::new(self.alloc);
         let cut = self.cut(conn, piece, &mut list)?;
-        answer_all(node, &cut.requests, &mut list);
+        answer_all(node, log, &cut.requests, &mut list);
         add_refusal(cut.ending, &mut list);
         let last = cut.ending != Ending::Open;
         Ok(Replies { list, last })

@@ -1,4 +1,6 @@
+use crate::answering::answer;
 use crate::connections::Connections;
+use crate::failure_log::{FailureLog, NoLog};
 use crate::fault::HubFault;
 use crate::replies::Replies;
 use couch_http::{Request, Response};
@@ -7,25 +9,28 @@ use std::alloc::Global;
 use std::marker::Model;
 use store::Store;
 
-/// A node with its connections.
+/// A node with its connections, and a log of its replies of 500.
 ///
-/// In clauses it is a `HubState`: the node, and what has come of the next request on each connection.
-pub struct Hub<S: Store + Drop> {
+/// In clauses it is a `HubState`: the node, what has come of the next request on each connection, and what
+/// the log was told.
+pub struct Hub<S: Store + Drop, L: FailureLog + Drop> {
     node: Node<S>,
     connections: Connections,
+    log: L,
 }
 
 // Written out, so that callers do not prove again how each part is dropped.
-impl<S: Store + Drop> Drop for Hub<S> {
+impl<S: Store + Drop, L: FailureLog + Drop> Drop for Hub<S, L> {
     fn drop(self) {
         let Hub {
             node: _,
             connections: _,
+            log: _,
         } = self;
     }
 }
 
-impl<S: Store + Drop> Model for Hub<S> {
+impl<S: Store + Drop, L: FailureLog + Drop> Model for Hub<S, L> {
     ghost use Rattle.hub.specs.Feeding.{HubState};
     ghost use Rattle.hub.specs.Codes.{state_code};
 
@@ -33,26 +38,42 @@ impl<S: Store + Drop> Model for Hub<S> {
 
     ghost coded = { state_code S.code };
 
-    ghost view = { λ h. record { node = h.node; connections = h.connections } };
+    ghost view = { λ h. record { node = h.node; connections = h.connections; failures = L.told h.log } };
 }
 
-impl<S: Store + Drop> Hub<S> {
+impl<S: Store + Drop> Hub<S, NoLog> {
+    ghost use Rattle.std.specs.Prelude.{◌≡◌, None};
+    ghost use Rattle.hub.specs.Connections.{no_connections};
+
+    /// Makes a hub of a node, without connections, and with a log that keeps nothing. Takes no memory.
+    pub fn new(alloc: Global, node: Node<S>) -> Hub<S, NoLog>
+        ensures node { result.node ≡ node }
+        ensures connections { result.connections ≡ no_connections }
+    {
+        Hub::with_log(alloc, node, NoLog)
+    }
+}
+
+impl<S: Store + Drop, L: FailureLog + Drop> Hub<S, L> {
     ghost use Rattle.std.specs.Prelude.{◌≡◌, ◌≢◌, ◌^◌, ◌-◌, ◌↔◌, true, false, None, IfOk, IfErr, OnOk, OnErr, IsErrOf};
     ghost use Rattle.couch_http.specs.Message.{message_of};
     ghost use Rattle.store.specs.Calls.{GoesOn};
     ghost use Rattle.node.specs.Causes.{HasCause};
     ghost use Rattle.node.specs.Step.{IsStep};
     ghost use Rattle.hub.specs.Connections.{is_open, next_connection, no_connections, rest_on, was_opened, with_connection, without};
+    ghost use Rattle.hub.specs.Failing.{Tells, failure_at};
     ghost use Rattle.hub.specs.Feeding.{IsFed};
 
-    /// Makes a hub of a node, without connections. Takes no memory.
-    pub fn new(alloc: Global, node: Node<S>) -> Hub<S>
+    /// Makes a hub of a node, without connections, and with this log. Takes no memory.
+    pub fn with_log(alloc: Global, node: Node<S>, log: L) -> Hub<S, L>
         ensures node { result.node ≡ node }
         ensures connections { result.connections ≡ no_connections }
+        ensures failures { result.failures ≡ L.told log }
     {
         Hub {
             node,
             connections: Connections::new(alloc),
+            log,
         }
     }
 
@@ -95,7 +116,8 @@ impl<S: Store + Drop> Hub<S> {
             ↔ ((was_opened self.old.connections conn ≡ true) × (rest_on self.old.connections conn ≡ None)) }
         ensures refused { IfErr result (λ fault. fault ≢ HubFault.Full) }
     {
-        self.connections.feed(&mut self.node, conn, piece)
+        self.connections
+            .feed_and_log(&mut self.node, &mut self.log, conn, piece)
     }
 
     /// Ends a connection. A number that was never given changes nothing. Takes no memory.
@@ -105,14 +127,16 @@ impl<S: Store + Drop> Hub<S> {
         self.connections.close(conn)
     }
 
-    /// Handles one request that came on no connection, as the node does.
+    /// Handles one request that came on no connection, as the node does. The log is told where the reply
+    /// is 500.
     pub fn handle(&mut self, request: &Request) -> Response
         ensures step { S.is_honest self.new.node.store → IsStep self.old.node.configuration (S.contents self.old.node.store) (message_of request.now)
             (HasCause S.Store self.old.node.store self.new.node.store) result (S.contents self.new.node.store) }
         ensures configuration { self.new.node.configuration ≡ self.old.node.configuration }
         ensures onward { GoesOn S.Store self.old.node.store self.new.node.store }
         ensures connections { self.new.connections ≡ self.old.connections }
+        ensures tells { Tells self.old.failures self.new.failures (failure_at (message_of request.now) result) }
     {
-        self.node.handle(request)
+        answer(&mut self.node, &mut self.log, request)
     }
 }

@@ -4,6 +4,7 @@
 mod answering;
 mod connections;
 mod cutters;
+mod failure_log;
 mod fault;
 mod hub;
 pub mod laws;
@@ -13,6 +14,7 @@ mod service;
 mod service_end;
 
 pub use connections::Connections;
+pub use failure_log::{FailureLog, NoLog};
 pub use fault::HubFault;
 pub use hub::Hub;
 pub use parts::measure_part;

@@ -9,6 +9,7 @@ ghost use Rattle.hub.specs.Service.{end_after_replies, farewell, greatest_piece,
 ghost use Rattle.std.specs.Io.KnownBytes.{Appends};
 ghost use Rattle.couch_http.specs.Writing.{Takes};
 
+use crate::failure_log::FailureLog;
 use crate::fault::HubFault;
 use crate::hub::Hub;
 use crate::parts::measure_part;
@@ -29,8 +30,8 @@ const READS: u64 = 1_048_576;
 ///
 /// A write that takes no byte has failed. A read or a write that is interrupted is made again. Where memory
 /// runs out, the fixed reply with status 503 is written, and the connection ends. See RFC 9112, section 9.3.
-pub fn serve_connection<S: Store + Drop, R: Read, W: Write>(
-    hub: &mut Hub<S>,
+pub fn serve_connection<S: Store + Drop, L: FailureLog + Drop, R: Read, W: Write>(
+    hub: &mut Hub<S, L>,
     reader: &mut R,
     writer: &mut W,
 ) -> ServiceEnd
@@ -52,8 +53,8 @@ pub fn serve_connection<S: Store + Drop, R: Read, W: Write>(
 }
 
 /// Serves an open connection, piece by piece.
-fn serve_pieces<S: Store + Drop, R: Read, W: Write>(
-    hub: &mut Hub<S>,
+fn serve_pieces<S: Store + Drop, L: FailureLog + Drop, R: Read, W: Write>(
+    hub: &mut Hub<S, L>,
     conn: u64,
     reader: &mut R,
     writer: &mut W,
@@ -76,8 +77,8 @@ fn serve_pieces<S: Store + Drop, R: Read, W: Write>(
 
 /// Reads one piece of an open connection, and writes the replies to it. Returns why the service ends, or
 /// `None` where it goes on.
-fn serve_read<S: Store + Drop, R: Read, W: Write>(
-    hub: &mut Hub<S>,
+fn serve_read<S: Store + Drop, L: FailureLog + Drop, R: Read, W: Write>(
+    hub: &mut Hub<S, L>,
     conn: u64,
     reader: &mut R,
     room: &mut [u8],
@@ -102,8 +103,8 @@ fn serve_read<S: Store + Drop, R: Read, W: Write>(
 
 /// Feeds a piece to an open connection, part by part. The replies to each part are written before the next
 /// one is fed.
-fn serve_piece<S: Store + Drop, W: Write>(
-    hub: &mut Hub<S>,
+fn serve_piece<S: Store + Drop, L: FailureLog + Drop, W: Write>(
+    hub: &mut Hub<S, L>,
     conn: u64,
     piece: &[u8],
     writer: &mut W,
@@ -129,8 +130,8 @@ fn serve_piece<S: Store + Drop, W: Write>(
 }
 
 /// Feeds a part of a piece to an open connection, and writes the replies to it.
-fn serve_part<S: Store + Drop, W: Write>(
-    hub: &mut Hub<S>,
+fn serve_part<S: Store + Drop, L: FailureLog + Drop, W: Write>(
+    hub: &mut Hub<S, L>,
     conn: u64,
     part: &[u8],
     writer: &mut W,

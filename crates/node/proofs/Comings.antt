@@ -32,7 +32,7 @@ use Rattle.node.specs.declared.early_end.EarlyEnd.TheVariants.{Refused, Failed, 
 pub work_stops : (databases : Contents) (name : List ℕ) (db : Database) (stop : EarlyEnd) (done : Result Done Refusal) → MatchesDefinition (done_of db) (Err stop) done
     → MatchesDefinition (outcome_of databases) (Err stop) (and_then done (λ d. Ok (outcome_in_database name d)))
 work_stops databases name db (Refused refusal) done h = ap (λ (r : Result Done Refusal). and_then r (λ d. Ok (outcome_in_database name d))) h
-work_stops databases name db Failed done h = tt
+work_stops databases name db (Failed fault) done h = tt
 work_stops databases name db NoRoom done h = tt
 
 refused_on : {A B C : Type 0} (r : Result A Refusal) (f : A → B) (refusal : Refusal) (go : A → Result C Refusal) → and_then r (λ a. Ok (f a)) ≡ Err refusal → and_then r go ≡ Err refusal
@@ -46,7 +46,7 @@ pub entry_stops : (databases : Contents) (caller : Identity) (action : Action) (
 entry_stops databases caller action m work name (Refused refusal) own h =
     ap (λ (r : Result (List ℕ) Refusal). and_then (and_then r (λ n. Ok (worked action n (work n)))) (task_outcome caller databases)) own
     ∙ refused_on (entry caller action (get databases name)) Some refusal (λ db. and_then (work name db) (λ d. Ok (outcome_in_database name d))) h
-entry_stops databases caller action m work name Failed own h = tt
+entry_stops databases caller action m work name (Failed fault) own h = tt
 entry_stops databases caller action m work name NoRoom own h = tt
 
 -- a deletion that names a revision is its edit

@@ -80,7 +80,7 @@ failed_from old mid new before (inl rose) = inl (omega (arith, before, rose))
 failed_from old mid new before (inr full) = inr full
 
 pub ends_from : {S : Type 0} (g : Ghosts S) (a b c : S) (stop : EarlyEnd) → OnlyReads g a b → Ends g b c stop → Ends g a c stop
-ends_from g a b c Broken reads h = λ honest. failed_from _ _ _ reads.goes_on.counted (h honest)
+ends_from g a b c (Broken fault) reads h = λ honest. failed_from _ _ _ reads.goes_on.counted (h honest)
 ends_from g a b c (Refused refusal) reads h = tt
 ends_from g a b c NoRoom reads h = tt
 
@@ -100,7 +100,7 @@ cause_from g a b c change reads honest (inr lacking) = inr (lacking_from g a b c
 -- the change that was to be made may be told by either state
 ends_before_from : {S : Type 0} (g : Ghosts S) (a b c : S) (change whole : Change) (stop : EarlyEnd) → OnlyReads g a b → (g.is_honest c → g.is_honest b) → (g.is_honest c → change ≡ whole)
     → EndsBefore g b c change stop → EndsBefore g a c whole stop
-ends_before_from g a b c change whole Broken reads onward same h = λ honest. subst (λ (x : Change). HasCause g a c x) (same honest) (cause_from g a b c change reads (onward honest) (h honest))
+ends_before_from g a b c change whole (Broken fault) reads onward same h = λ honest. subst (λ (x : Change). HasCause g a c x) (same honest) (cause_from g a b c change reads (onward honest) (h honest))
 ends_before_from g a b c change whole (Refused refusal) reads onward same h = tt
 ends_before_from g a b c change whole NoRoom reads onward same h = tt
 

@@ -1,5 +1,5 @@
 -- What holds of what each request asks, and so of its answer.
-use Rattle.std.proofs.Common.{◌≡◌, ◌≢◌, ℕ, List, [], ◌∷◌, Bool, true, false, cond, Option, Some, None, Result, Ok, Err, ◌⊎◌, inl, inr, refl, ap, ◌∙◌, subst, is_none}
+use Rattle.std.proofs.Common.{◌≡◌, ◌≢◌, ℕ, List, [], ◌∷◌, Bool, true, false, not, cond, Option, Some, None, option_and_then, Result, Ok, Err, ◌⊎◌, inl, inr, refl, sym, ap, ◌∙◌, subst, is_none}
 use Rattle.std.specs.Prelude.{⊤}
 use Rattle.std.specs.FinMap.{get}
 use Rattle.auth.specs.Callers.{Configuration, Identity}
@@ -11,11 +11,11 @@ use Rattle.policy.specs.declared.action.Action.{Action}
 use Rattle.policy.specs.declared.action.Action.TheVariants.{Read, WriteSecurity, WriteDocument}
 use Rattle.store.specs.Contents.{AreAcceptable, Contents, local_at}
 use Rattle.store.specs.Database.{Database, DocumentWrite}
-use Rattle.store.specs.Lawful.{IsBody, IsLawfulDatabase}
+use Rattle.store.specs.Lawful.{IsLawfulDatabase, IsLocalDocument}
 use Rattle.store.specs.declared.local_document.LocalDocument.{LocalDocument}
 use Rattle.write.specs.LocalWrites.{local_outcome}
 use Rattle.write.specs.Planning.{security_outcome}
-use Rattle.write.proofs.LocalBodies.{local_has_body}
+use Rattle.write.proofs.LocalBodies.{local_is_lawful}
 use Rattle.write.specs.Terms.{Terms, terms_in}
 use Rattle.write.specs.declared.fault.WriteFault.{WriteFault}
 use Rattle.find.specs.Indexes.{index_in}
@@ -32,7 +32,11 @@ use Rattle.write.specs.declared.fault.WriteFault.TheVariants.{BadDocument}
 use Rattle.write.specs.declared.fault.WriteFault.TheVariants as write
 use Rattle.node.specs.Answer.{Change, Outcome, Task, administration, permission, change_at, created, creation, entry, admin_task, inside, judgement, kept, listed, database_name_of, outcome_in_database, task_outcome, removal, removed, page_outcome, task_of, told, welcome, worked, work_task}
 use Rattle.node.specs.Effects.{Fits}
-use Rattle.api.specs.Paths.{database_name_in, local_id_in}
+use Rattle.api.specs.Paths.{database_name_in, document_id_in, local_id_in, named_id_in, text_if}
+use Rattle.api.specs.Queries.{revision_query}
+use Rattle.find.specs.Indexes.{IndexAsked}
+use Rattle.find.proofs.Indexing.{index_in-design}
+use Rattle.tree.specs.DocumentId.{is_design_id, is_local_id}
 use Rattle.node.specs.Work.{Done, Effect, Work, appended, local_put, nothing, read_work, secured, value_done}
 use Rattle.api.specs.Refusals.{and_then, there_or, true_or}
 use Rattle.node.specs.Works.{change_list, database_read, difference_list, document_deleted, document_finds, document_list, document_read, document_written, documents_written, deletion, deletion_outcome, done, edit_asked, bulk_written, edit_done, edit_in, index_asked_in, index_done, index_written, local_read, local_set, local_written, security_read, security_set, security_written, view_read}
@@ -41,7 +45,7 @@ use Rattle.api.specs.declared.method.RequestMethod.TheVariants.{Get, Put, Post, 
 use Rattle.api.specs.declared.page.Page.{Page}
 use Rattle.api.specs.declared.page.Page.TheVariants.{Welcome, AllDatabases, Database as DatabasePage, Security, BulkDocuments, AllDocuments, Changes, Differences, Find, Index, View, Document, LocalDocument as LocalDocumentPage}
 use Rattle.api.specs.declared.refusal.Refusal.{Refusal}
-use Rattle.api.specs.declared.refusal.Refusal.TheVariants.{Body, Id, DatabaseName, NoDatabase, Exists, Path}
+use Rattle.api.specs.declared.refusal.Refusal.TheVariants.{Body, Id, DatabaseName, NoDatabase, Exists, Path, Query}
 
 -- ---- one step after another
 
@@ -107,31 +111,55 @@ sound_edited : (caller : Identity) (status : ℕ) (id : List ℕ) (db : Database
 sound_edited caller status id db (Ok w) d good ok e = subst (λ (x : Done). IsSound db x) (same {A = Done} _ d e) (record { status = good; fits = λ lawful. ok w refl lawful })
 sound_edited caller status id db (Err fault) d good ok e = absurd cc
 
-edit_fits : (terms : Terms) (db : Database) (id : List ℕ) (query : Option Revision) (document : Value) (w : DocumentWrite) → admission terms db id query document ≡ Ok w → IsLawfulDatabase db
+edit_fits : (terms : Terms) (db : Database) (id : List ℕ) (query : Option Revision) (document : Value) (w : DocumentWrite) → is_local_id id ≡ false → admission terms db id query document ≡ Ok w → IsLawfulDatabase db
     → AreAcceptable db (w ∷ [])
-edit_fits terms db id query document w e lawful = (edit_acceptable terms db id query document w lawful e, tt)
+edit_fits terms db id query document w apart e lawful = (edit_acceptable terms db id query document w lawful apart e, tt)
+
+-- an id that passes a test of a path
+passed : (test : List ℕ → Bool) (o : Option (List ℕ)) (id : List ℕ) → there_or Id (option_and_then (λ k. text_if (test k) k) o) ≡ Ok id → test id ≡ true
+passed test None id e = absurd cc
+passed test (Some k) id e = by (test k) refl e
+  where
+    by : (b : Bool) → test k ≡ b → there_or Id (text_if b k) ≡ Ok id → test id ≡ true
+    by true is f = let same : k ≡ id = cc in ap test (sym same) ∙ is
+    by false is f = absurd cc
+
+turned : (b : Bool) → not b ≡ true → b ≡ false
+turned true h = absurd cc
+turned false h = refl
+
+-- the id of a document that is edited is no local one
+asked_apart : (m : Message) (asked : List ℕ × Option Revision) → edit_asked m ≡ Ok asked → is_local_id asked.0 ≡ false
+asked_apart m asked e =
+    let k = went (there_or Id (document_id_in m.path)) (λ id. and_then (there_or Query (revision_query m.query)) (λ rev. Ok (id, rev))) asked e in
+    let l = went (there_or Query (revision_query m.query)) (λ rev. Ok (k.first, rev)) asked k.then in
+    let same : k.first ≡ asked.0 = same_id k.first asked l.first l.then in
+    ap is_local_id (sym same) ∙ turned (is_local_id k.first) (passed (λ id. not (is_local_id id)) (named_id_in m.path) k.first k.was)
+  where
+    same_id : (id : List ℕ) (asked : List ℕ × Option Revision) (rev : Option Revision) → well (id, rev) ≡ Ok asked → id ≡ asked.0
+    same_id id asked rev e = cc
 
 sound_document : (caller : Identity) (m : Message) (name : List ℕ) → AreSound (document_written caller m name)
 sound_document caller m name db d e =
     let terms = terms_in caller name db in
     let k = went (edit_asked m) (λ asked. and_then (json_body m) (λ document. edit_in caller 201 name db asked.0 asked.1 document)) d e in
     let l = went (json_body m) (λ document. edit_in caller 201 name db k.first.0 k.first.1 document) d k.then in
-    sound_edited caller 201 k.first.0 db (admission terms db k.first.0 k.first.1 l.first) d (inr refl) (λ w. edit_fits terms db k.first.0 k.first.1 l.first w) l.then
+    sound_edited caller 201 k.first.0 db (admission terms db k.first.0 k.first.1 l.first) d (inr refl) (λ w. edit_fits terms db k.first.0 k.first.1 l.first w (asked_apart m k.first k.was)) l.then
 
 unnamed_refused : (o : Option Rule) (w : DocumentWrite) → unless_denied o (Err write.Conflict) ≡ Ok w → ⊥
 unnamed_refused None w e = absurd cc
 unnamed_refused (Some rule) w e = absurd cc
 
-deletion_fits : (terms : Terms) (db : Database) (id : List ℕ) (named : Option Revision) (w : DocumentWrite) → deletion_outcome terms db id named ≡ Ok w → IsLawfulDatabase db
+deletion_fits : (terms : Terms) (db : Database) (id : List ℕ) (named : Option Revision) (w : DocumentWrite) → is_local_id id ≡ false → deletion_outcome terms db id named ≡ Ok w → IsLawfulDatabase db
     → AreAcceptable db (w ∷ [])
-deletion_fits terms db id None w e lawful = absurd (unnamed_refused (design_refusal terms id) w e)
-deletion_fits terms db id (Some rev) w e lawful = edit_fits terms db id (Some rev) deletion w e lawful
+deletion_fits terms db id None w apart e lawful = absurd (unnamed_refused (design_refusal terms id) w e)
+deletion_fits terms db id (Some rev) w apart e lawful = edit_fits terms db id (Some rev) deletion w apart e lawful
 
 sound_deletion : (caller : Identity) (m : Message) (name : List ℕ) → AreSound (document_deleted caller m name)
 sound_deletion caller m name db d e =
     let terms = terms_in caller name db in
     let k = went (edit_asked m) (λ asked. edit_done caller 200 asked.0 (deletion_outcome terms db asked.0 asked.1)) d e in
-    sound_edited caller 200 k.first.0 db (deletion_outcome terms db k.first.0 k.first.1) d (inl refl) (λ w. deletion_fits terms db k.first.0 k.first.1 w) k.then
+    sound_edited caller 200 k.first.0 db (deletion_outcome terms db k.first.0 k.first.1) d (inl refl) (λ w. deletion_fits terms db k.first.0 k.first.1 w (asked_apart m k.first k.was)) k.then
 
 sound_documents : (caller : Identity) (m : Message) (name : List ℕ) → AreSound (documents_written caller m name)
 sound_documents caller m name db d e =
@@ -145,6 +173,10 @@ sound_declared : (caller : Identity) (id name : List ℕ) (db : Database) (r : D
 sound_declared caller id name db (Ok w) d ok e = subst (λ (x : Done). IsSound db x) (same {A = Done} _ d e) (record { status = inl refl; fits = ok })
 sound_declared caller id name db (Err fault) d ok e = absurd cc
 
+asked_design : (o : Option IndexAsked) (asked : IndexAsked) → (o ≡ Some asked → is_design_id asked.design ≡ true) → there_or Body o ≡ Ok asked → is_design_id asked.design ≡ true
+asked_design None asked h e = absurd cc
+asked_design (Some a) asked h e = let same : a ≡ asked = cc in h (ap Some same)
+
 sound_index : (caller : Identity) (m : Message) (name : List ℕ) → AreSound (index_written caller m name)
 sound_index caller m name db d e =
     let terms = terms_in caller name db in
@@ -152,9 +184,9 @@ sound_index caller m name db d e =
     let l = went (json_body m) (λ value. and_then (there_or Body (index_in value)) (λ asked. index_asked_in caller name db asked)) d k.then in
     let b = went (there_or Body (index_in l.first)) (λ asked. index_asked_in caller name db asked) d l.then in
     sound_declared caller b.first.design b.first.name db (index_admission terms db b.first.design b.first.name b.first.fields) d
-    (index_alone_acceptable terms db b.first.design b.first.name b.first.fields) b.then
+    (λ lawful. index_alone_acceptable terms db b.first.design b.first.name b.first.fields lawful (asked_design (index_in l.first) b.first (index_in-design l.first b.first) b.was)) b.then
 
-sound_stored : (caller : Identity) (id : List ℕ) (db : Database) (r : Result LocalDocument WriteFault) (d : Done) → ((l : LocalDocument) → r ≡ Ok l → IsBody l.body)
+sound_stored : (caller : Identity) (id : List ℕ) (db : Database) (r : Result LocalDocument WriteFault) (d : Done) → ((l : LocalDocument) → r ≡ Ok l → IsLocalDocument id l)
     → local_set caller id r ≡ Ok d → IsSound db d
 sound_stored caller id db (Ok l) d ok e = subst (λ (x : Done). IsSound db x) (same {A = Done} _ d e) (record { status = inr refl; fits = λ lawful. ok l refl })
 sound_stored caller id db (Err fault) d ok e = absurd cc
@@ -164,7 +196,7 @@ sound_local caller m db d e =
     let k = went (there_or Id (local_id_in m.path)) (λ id. and_then (plain m) (λ _. and_then (json_body m) (λ document. local_set caller id (local_outcome (local_at db id) id document)))) d e in
     let l = went (plain m) (λ _. and_then (json_body m) (λ document. local_set caller k.first (local_outcome (local_at db k.first) k.first document))) d k.then in
     let b = went (json_body m) (λ document. local_set caller k.first (local_outcome (local_at db k.first) k.first document)) d l.then in
-    sound_stored caller k.first db (local_outcome (local_at db k.first) k.first b.first) d (λ document. local_has_body (local_at db k.first) k.first b.first document) b.then
+    sound_stored caller k.first db (local_outcome (local_at db k.first) k.first b.first) d (λ document. local_is_lawful (local_at db k.first) k.first b.first document (passed is_local_id (named_id_in m.path) k.first k.was)) b.then
 
 -- ---- what is asked
 

@@ -1,6 +1,6 @@
 -- Why the work on a request may end because the store failed.
 -- This server's own: a reply of 500 stands for a fault of the store that is counted, or for want of numbers for the change that the answer makes, and for nothing else.
-use Rattle.std.specs.Prelude.{◌⊎◌, ⊤}
+use Rattle.std.specs.Prelude.{◌≢◌, ◌⊎◌, ⊤}
 use Rattle.store.specs.Causes.{HasFailed}
 use Rattle.store.specs.declared.fault.StoreFault.{StoreFault}
 use Rattle.store.specs.declared.fault.StoreFault.TheVariants as store
@@ -34,13 +34,13 @@ IsFailure g old new change = HasFailed (g.fault_count old) (g.fault_count new) �
 
 -- what has to hold where the work on a request ends so before anything is changed
 abbrev pub Ends : {S : Type 0} → Ghosts S → S → S → EarlyEnd → Type 0
-Ends g old new Failed = g.is_honest new → HasFailed (g.fault_count old) (g.fault_count new)
+Ends g old new (Failed fault) = g.is_honest new → HasFailed (g.fault_count old) (g.fault_count new)
 Ends g old new (Refused refusal) = ⊤
 Ends g old new NoRoom = ⊤
 
 -- what has to hold where it ends so though this change was to be made
 abbrev pub EndsBefore : {S : Type 0} → Ghosts S → S → S → Change → EarlyEnd → Type 0
-EndsBefore g old new change Failed = g.is_honest new → HasCause g old new change
+EndsBefore g old new change (Failed fault) = g.is_honest new → HasCause g old new change
 EndsBefore g old new change (Refused refusal) = ⊤
 EndsBefore g old new change NoRoom = ⊤
 
@@ -54,7 +54,7 @@ abbrev pub stop_of : StoreFault → EarlyEnd
 stop_of store.Memory = NoRoom
 stop_of store.NoDatabase = Refused NoDatabase
 stop_of store.Exists = Refused Exists
-stop_of fault = Failed
+stop_of fault = Failed fault
 
 -- how a request ends that shows nothing
 abbrev pub stop_of_reader : ReadFault → EarlyEnd
@@ -67,4 +67,9 @@ stop_of_reader read.Memory = NoRoom
 -- how a request ends whose change was not made
 abbrev pub stop_of_change : WriteFault → EarlyEnd
 stop_of_change write.Memory = NoRoom
-stop_of_change fault = Failed
+stop_of_change (write.Store fault) = Failed fault
+stop_of_change fault = Failed store.Failed
+
+-- it doesn't end for the store's sake
+abbrev pub IsOfNoStore : EarlyEnd → Type 0
+IsOfNoStore stop = (fault : StoreFault) → stop ≢ Failed fault

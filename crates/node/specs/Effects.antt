@@ -5,17 +5,17 @@ use Rattle.couch_http.specs.Message.{Message}
 use Rattle.policy.specs.Security.{is_security}
 use Rattle.store.specs.Contents.{AreAcceptable}
 use Rattle.store.specs.Database.{Database, IsLater}
-use Rattle.store.specs.Lawful.{IsBody}
+use Rattle.store.specs.Lawful.{IsLocalDocument}
 use Rattle.api.specs.Routing.{page_of}
 use Rattle.api.specs.declared.page.Page.TheVariants.{AllDatabases}
 use Rattle.node.specs.Work.{Effect, appended, local_put, nothing, secured}
 
--- the effect may be had on this database: its writes may be appended, its security object is one, and its local document has a body
+-- the effect may be had on this database: its writes may be appended, its security object is one, and its local document is one
 abbrev pub Fits : Effect → Database → Type 0
 Fits nothing db = ⊤
 Fits (appended ws) db = AreAcceptable db ws
 Fits (secured security) db = is_security security ≡ true
-Fits (local_put id document) db = IsBody document.body
+Fits (local_put id document) db = IsLocalDocument id document
 
 -- a later state of the database
 abbrev pub IsLaterThan : Database → Option Database → Type 0

@@ -1,6 +1,6 @@
 //! The way of a request through a node, from its headers to its reply.
 
-ghost use Rattle.std.specs.Prelude.{◌≡◌, ◌≢◌, ◌⊎◌, IfOk, IfErr, OnOk, Err};
+ghost use Rattle.std.specs.Prelude.{◌≡◌, ◌≢◌, ◌⊎◌, IfOk, IfErr, OnOk, Err, is_some, true};
 ghost use Rattle.couch_http.specs.Message.{message_of};
 ghost use Rattle.couch_http.specs.Reply.{fixed_reply, reply_of};
 ghost use Rattle.couch_http.specs.declared.fixed.Fixed.TheVariants.{NoRoom};
@@ -29,22 +29,28 @@ use std::alloc::Global;
 use store::{DbName, Store, StoreFault};
 use write::{Planned, WriteFault, apply};
 
-/// Replies to a request, whatever becomes of it.
+/// Replies to a request, whatever becomes of it. Where the store failed, puts down why.
 pub(crate) fn handle<S: Store>(
     alloc: Global,
     store: &mut S,
     auth: &Auth,
     routes: &Routes,
     request: &Request,
+    cause: &mut Option<StoreFault>,
 ) -> Response
     ensures step { S.is_honest store.new → IsStep auth.now (S.contents store.old) (message_of request.now)
         (HasCause S.Store store.old store.new) result (S.contents store.new) }
     ensures onward { GoesOn S.Store store.old store.new }
+    ensures cause { (cause.new ≡ cause.old) ⊎ (result.status ≡ 500) }
+    ensures told { S.is_honest store.new → result.status ≡ 500 → is_some cause.new ≡ true }
 {
     match reply(alloc, store, auth, routes, request) {
         Ok(reply) => reply,
         Err(EarlyEnd::Refused(refusal)) => refusal_reply(alloc, &refusal, request.last),
-        Err(EarlyEnd::Failed) => Response::fixed(Fixed::Store { last: request.last }),
+        Err(EarlyEnd::Failed(fault)) => {
+            *cause = Some(fault);
+            Response::fixed(Fixed::Store { last: request.last })
+        }
         Err(EarlyEnd::NoRoom) => Response::fixed(Fixed::NoRoom { last: request.last }),
     }
 }
@@ -165,7 +171,7 @@ fn create<S: Store>(store: &mut S, name: &DbName) -> Result<(), EarlyEnd>
     match store.create(name) {
         Ok(()) => Ok(()),
         Err(StoreFault::Memory) => Err(EarlyEnd::NoRoom),
-        Err(_) => Err(EarlyEnd::Failed),
+        Err(fault) => Err(EarlyEnd::Failed(fault)),
     }
 }
 
@@ -181,7 +187,7 @@ fn remove<S: Store>(store: &mut S, name: &DbName) -> Result<(), EarlyEnd>
     match store.remove(name) {
         Ok(()) => Ok(()),
         Err(StoreFault::Memory) => Err(EarlyEnd::NoRoom),
-        Err(_) => Err(EarlyEnd::Failed),
+        Err(fault) => Err(EarlyEnd::Failed(fault)),
     }
 }
 
@@ -207,7 +213,8 @@ fn stop_after(fault: &WriteFault) -> EarlyEnd
 {
     match fault {
         WriteFault::Memory => EarlyEnd::NoRoom,
-        _ => EarlyEnd::Failed,
+        WriteFault::Store(fault) => EarlyEnd::Failed(*fault),
+        _ => EarlyEnd::Failed(StoreFault::Failed),
     }
 }
 

@@ -11,8 +11,8 @@ use store::StoreFault;
 pub(crate) enum EarlyEnd {
     /// The request is refused.
     Refused(Refusal),
-    /// The store failed.
-    Failed,
+    /// The store failed, for this cause.
+    Failed(StoreFault),
     /// Memory ran out.
     NoRoom,
 }
@@ -40,7 +40,7 @@ impl From<StoreFault> for EarlyEnd {
             StoreFault::Memory => EarlyEnd::NoRoom,
             StoreFault::NoDatabase => EarlyEnd::Refused(Refusal::NoDatabase),
             StoreFault::Exists => EarlyEnd::Refused(Refusal::Exists),
-            StoreFault::Failed | StoreFault::Damaged | StoreFault::Full => EarlyEnd::Failed,
+            StoreFault::Failed | StoreFault::Damaged | StoreFault::Full => EarlyEnd::Failed(fault),
         }
     }
 }

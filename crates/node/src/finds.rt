@@ -1,10 +1,11 @@
 //! The pages of finds and of views (CouchDB manual, api/database/find and api/ddoc/views).
 
-ghost use Rattle.std.specs.Prelude.{◌≡◌, ◌≢◌, IfErr, IfOk};
+ghost use Rattle.std.specs.Prelude.{◌≡◌, IfErr, IfOk};
 ghost use Rattle.couch_http.specs.Message.{message_of};
 ghost use Rattle.couch_json.specs.View.{view};
 ghost use Rattle.find.specs.Queries.{query_in};
 ghost use Rattle.api.specs.Refusals.{there_or};
+ghost use Rattle.node.specs.Causes.{IsOfNoStore};
 ghost use Rattle.node.specs.inner.Coming.{MatchesDefinition, IsDatabaseRead};
 ghost use Rattle.node.specs.Works.{document_finds, documents_reply, view_read};
 
@@ -35,7 +36,7 @@ pub(crate) fn find_documents<S: Store>(
 /// Reads what is looked for.
 fn read_query(alloc: Global, value: &Json) -> Result<Query, EarlyEnd>
     ensures comes { MatchesDefinition (λ query. query) result (there_or Refusal.Body (query_in (view value.now))) }
-    ensures ends { IfErr result (λ stop. stop ≢ EarlyEnd.Failed) }
+    ensures ends { IfErr result IsOfNoStore }
 {
     match Query::read(alloc, value) {
         Ok(query) => Ok(query),

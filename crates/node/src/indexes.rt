@@ -1,6 +1,6 @@
 //! The page on which an index is declared (CouchDB manual, api/database/find).
 
-ghost use Rattle.std.specs.Prelude.{◌≡◌, ◌≢◌, IfErr, IfOk, true};
+ghost use Rattle.std.specs.Prelude.{◌≡◌, IfErr, IfOk, true};
 ghost use Rattle.couch_http.specs.Message.{message_of};
 ghost use Rattle.couch_json.specs.View.{view};
 ghost use Rattle.find.specs.IndexRead.{index_asked};
@@ -9,6 +9,7 @@ ghost use Rattle.tree.specs.DocumentId.{is_design_id};
 ghost use Rattle.write.specs.BulkResults.{IsUnrefused, OfFirst};
 ghost use Rattle.api.specs.Refusals.{there_or};
 ghost use Rattle.node.specs.inner.Drafts.{says_made};
+ghost use Rattle.node.specs.Causes.{IsOfNoStore};
 ghost use Rattle.node.specs.inner.Coming.{MatchesDefinition, WorksIn};
 ghost use Rattle.node.specs.Works.{index_asked_in, index_reply, index_written};
 
@@ -44,7 +45,7 @@ pub(crate) fn write_index<S: Store>(
 fn read_index(alloc: Global, value: &Json) -> Result<Index, EarlyEnd>
     ensures comes { MatchesDefinition index_asked result (there_or Refusal.Body (index_in (view value.now))) }
     ensures design { IfOk result (λ index. is_design_id index.design ≡ true) }
-    ensures ends { IfErr result (λ stop. stop ≢ EarlyEnd.Failed) }
+    ensures ends { IfErr result IsOfNoStore }
 {
     match Index::read(alloc, value) {
         Ok(index) => Ok(index),

@@ -1,10 +1,11 @@
 //! A local document's page: `GET` and `PUT /{db}/_local/{id}` (CouchDB manual, api/local).
 
-ghost use Rattle.std.specs.Prelude.{◌≡◌, IfOk};
+ghost use Rattle.std.specs.Prelude.{◌≡◌, IfOk, IsTrue};
 ghost use Rattle.couch_http.specs.Message.{message_of};
 ghost use Rattle.couch_json.specs.Value.{object};
 ghost use Rattle.couch_json.specs.View.{view};
 ghost use Rattle.store.specs.Contents.{local_at};
+ghost use Rattle.tree.specs.DocumentId.{is_local_id};
 ghost use Rattle.write.specs.LocalWrites.{local_outcome};
 ghost use Rattle.write.specs.Planning.{IsLocal};
 ghost use Rattle.node.specs.inner.Drafts.{IsLocalReply};
@@ -63,6 +64,7 @@ fn set_local<S: Store>(
     id: &DocId,
     document: Json,
 ) -> Result<WriteDraft, EarlyEnd>
+    requires local { IsTrue (is_local_id id.now) }
     ensures works { WorksIn S.Store store.old store.new name.now
         (λ db. local_set caller.now id.now (local_outcome (local_at db id.now) id.now (view document))) result }
 {

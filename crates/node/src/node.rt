@@ -4,7 +4,7 @@ use auth::Auth;
 use couch_http::{Request, Response};
 use std::alloc::Global;
 use std::marker::Model;
-use store::Store;
+use store::{Store, StoreFault};
 
 /// One node: a store, and whoever may use it.
 ///
@@ -37,7 +37,7 @@ impl<S: Store + Drop> Model for Node<S> {
 }
 
 impl<S: Store + Drop> Node<S> {
-    ghost use Rattle.std.specs.Prelude.{◌≡◌};
+    ghost use Rattle.std.specs.Prelude.{◌≡◌, ◌⊎◌, is_some, true};
     ghost use Rattle.couch_http.specs.Message.{message_of};
     ghost use Rattle.store.specs.Calls.{GoesOn};
     ghost use Rattle.node.specs.Answer.{answer};
@@ -70,12 +70,32 @@ impl<S: Store + Drop> Node<S> {
         ensures configuration { self.new.configuration ≡ self.old.configuration }
         ensures onward { GoesOn S.Store self.old.store self.new.store }
     {
+        self.handle_with_cause(request, &mut None)
+    }
+
+    /// Answers a request as `handle` does. Where the reply is 500 since the store failed, its fault is put
+    /// into `cause`, which stays as it was else.
+    pub fn handle_with_cause(
+        &mut self,
+        request: &Request,
+        cause: &mut Option<StoreFault>,
+    ) -> Response
+        ensures step { S.is_honest self.new.store → IsStep self.old.configuration (S.contents self.old.store) (message_of request.now)
+            (HasCause S.Store self.old.store self.new.store) result (S.contents self.new.store) }
+        ensures failure { result.status ≡ 500 → IsFailure S.Store self.old.store self.new.store
+            (answer self.old.configuration (S.contents self.old.store) (message_of request.now)).change }
+        ensures configuration { self.new.configuration ≡ self.old.configuration }
+        ensures onward { GoesOn S.Store self.old.store self.new.store }
+        ensures cause { (cause.new ≡ cause.old) ⊎ (result.status ≡ 500) }
+        ensures told { S.is_honest self.new.store → result.status ≡ 500 → is_some cause.new ≡ true }
+    {
         handle(
             self.alloc,
             &mut self.store,
             &self.auth,
             &self.routes,
             request,
+            cause,
         )
     }
 

@@ -1,4 +1,4 @@
--- What an accepted write brings: a plain body, and revisions that can be written.
+-- What an accepted write brings: revisions that can be written.
 use Rattle.std.proofs.Common.{◌≡◌, ◌≢◌, ◌≤◌, ◌<◌, ◌+◌, ◌==◌, ◌&&◌, ◌⊎◌, ⊎_elim, inl, inr, ℕ, zero, suc, Bool, true, false, cond, not, List, [], ◌∷◌, ◌++◌, Option, Some, None, option_map, option_and_then, codes, nat_le, le-leb, leb-true, eq-eqb, refl, sym, ap, ◌∙◌, subst, arith}
 use Rattle.std.specs.Prelude.{IsTrue, MatchOption, is_some, slice_index}
 use Rattle.std.specs.List.{AllByRecursion}
@@ -29,36 +29,20 @@ use Rattle.write.specs.Admission.{parent_for_edit, edit_of, implicit_parent, nam
 use Rattle.write.specs.Document.{Ancestry, ancestry_alone, ancestry_by, body_for, body_in, item_count, fits_id, is_special, mark_in, onto, path_of_hashes, given_revision, ancestry_given, sent_in, sent_with, without_special, words_in}
 use Rattle.write.specs.Terms.{Terms}
 use Rattle.write.proofs.Outcomes.{IsEdit, IsReplicated}
-use Rattle.replication.specs.Sound.{AreWritable, IsReplicable, are_plain, is_plain}
+use Rattle.replication.specs.Sound.{AreWritable}
 use Rattle.replication.proofs.Replicas.{after_write}
 use Rattle.replication.proofs.Sayings.{along, given_path, kept_body, newest_given, said_of, suited}
 use Rattle.replication.proofs.Writings.{held_in, held_known}
 
 -- ---- one write
 
--- its body is plain, and each revision of its path can be written, or was known
+-- each revision of its path can be written, or was known
 pub record IsClean (db : Database) (w : DocumentWrite) : Type 0 where
-  pub body : is_plain w.write.body ≡ true
   pub path : (s : Revision) → StandsIn w.write.path s → IsKnownAt db w.id s ⊎ IsTrue (is_revision s)
 
 abbrev pub AreClean : Database → List DocumentWrite → Type 0
 AreClean db [] = Unit {0}
 AreClean db (w ∷ ws) = IsClean db w × AreClean (with_one db w) ws
-
-said_of_entry : (path : List Revision) (d : Option Held) (s : Revision) (e : Entry) (g : Held) → find revision_cmp s (path_entries d path) ≡ Some e → e.held ≡ Some g → d ≡ Some g
-said_of_entry [] d s e g found held = absurd cc
-said_of_entry (r ∷ path) d s e g found held = by (λ k. said_of_entry path None s e g k held) (eq_by_cmp revision_cmp s r) found
-  where
-    one : Entry
-    one = record { parent = head path; held = d }
-
-    none : (let x : Option Held = None in x) ≡ Some g → d ≡ Some g
-    none k = absurd cc
-
-    by : (find revision_cmp s (path_entries None path) ≡ Some e → (let x : Option Held = None in x) ≡ Some g) → (b : Bool)
-        → cond b (Some one) (find revision_cmp s (path_entries None path)) ≡ Some e → d ≡ Some g
-    by below true k = ap (λ (x : Entry). x.held) (inside one e k) ∙ held
-    by below false k = none (below k)
 
 -- what is known after a write was known, or stands in its path
 known_or_stands : (h : HistoryContent) (w : Write) (s : Revision) → is_known (with_write h w) s ≡ true → (is_known h s ≡ true) ⊎ StandsIn w.path s
@@ -70,77 +54,11 @@ known_or_stands h w s known = by (is_known h s) refl
         inr (found_stands w.path (Some (held_of_write w)) s
         (ap (λ (b : Bool). is_some (cond b (get h s) (find revision_cmp s (write_entries w)))) (sym is) ∙ ap is_some (sym (entry_after_write h w s)) ∙ known))
 
-held_or_brought : (h : HistoryContent) (w : Write) (s : Revision) (d : Held) → held_of (with_write h w) s ≡ Some d → (held_of h s ≡ Some d) ⊎ (held_of_write w ≡ d)
-held_or_brought h w s d e = by (is_known h s) refl
-  where
-    by : (b : Bool) → is_known h s ≡ b → (held_of h s ≡ Some d) ⊎ (held_of_write w ≡ d)
-    by true is = inl (ap held_in (sym (entry_kept h w s is)) ∙ e)
-    by false is =
-        let x = entry_of_known (with_write h w) s (held_known (with_write h w) s d e) in
-        let found : find revision_cmp s (write_entries w) ≡ Some x.0 =
-        ap (λ (b : Bool). cond b (get h s) (find revision_cmp s (write_entries w))) (sym is) ∙ sym (entry_after_write h w s) ∙ x.1 in
-        inr (inside (held_of_write w) d (said_of_entry w.path (Some (held_of_write w)) s x.0 d found (ap held_in (sym x.1) ∙ e)))
-
 -- what a clean write leaves can be written
 pub one_writable : (db : Database) (w : DocumentWrite) → AreWritable db → IsClean db w → AreWritable (with_one db w)
 one_writable db w h k id r =
     after_write (λ x. is_known x r ≡ true → IsTrue (is_revision r)) db w id (λ e. h id r e)
     (λ same e. ⊎_elim (λ old. h id r old) (λ in_path. ⊎_elim (λ old. h w.id r old) (λ good. good) (k.path r in_path)) (known_or_stands (history_at db id) w.write r e))
-
-pub one_stays : (db : Database) (w : DocumentWrite) → IsReplicable db → IsClean db w → IsReplicable (with_one db w)
-one_stays db w h k = record {
-  plain = λ id r d.
-      after_write (λ x. held_of x r ≡ Some d → is_plain d.body ≡ true) db w id (λ e. h.plain id r d e)
-      (λ same e. ⊎_elim (λ old. h.plain id r d old) (λ new. ap (λ (x : Held). is_plain x.body) (sym new) ∙ k.body) (held_or_brought (history_at db id) w.write r d e));
-  writable = one_writable db w h.writable k;
-}
-
--- ---- bodies
-
-pub without_plain : (ms : Members) → are_plain (without_special ms) ≡ true
-without_plain no_members = refl
-without_plain (member name v ms) = by (is_special name) refl (without_plain ms)
-  where
-    by : (b : Bool) → is_special name ≡ b → are_plain (without_special ms) ≡ true → are_plain (cond b (without_special ms) (member name v (without_special ms))) ≡ true
-    by true is rest = rest
-    by false is rest = ap (λ (b : Bool). not b && are_plain (without_special ms)) is ∙ rest
-
-body_plain : (document body : Value) → body_in document ≡ Some body → is_plain body ≡ true
-body_plain null body e = absurd cc
-body_plain (truth b) body e = absurd cc
-body_plain (whole n) body e = absurd cc
-body_plain (text s) body e = absurd cc
-body_plain (array vs) body e = absurd cc
-body_plain (object ms) body e = ap is_plain (kept_body _ (object (without_special ms)) body e) ∙ without_plain ms
-
-pub sent_plain : (id : List ℕ) (document : Value) (rev : Option Revision) (deleted : Bool) (body : Value) → sent_in id document ≡ Some (sent_with (rev, deleted) body) → is_plain body ≡ true
-sent_plain id document rev deleted body e =
-    let s = said_of sent_with (words_in id document) (body_for id document) (sent_with (rev, deleted) body) e in
-    ap is_plain (along sent_with (λ x. x.body) (sent_with (rev, deleted) body) (sent_with s.words_said s.body_said) s.is) ∙ body_plain document s.body_said (suited id (body_in document) s.body_said s.body_is)
-
-record Then {A B : Type 0} (o : Option A) (f : A → Option B) (b : B) : Type 0 where
-  first : A
-  is : o ≡ Some first
-  then : f first ≡ Some b
-
-then_of : {A B : Type 0} (o : Option A) (f : A → Option B) (b : B) → option_and_then f o ≡ Some b → Then o f b
-then_of None f b e = absurd cc
-then_of (Some a) f b e = record { first = a; is = refl; then = e }
-
-record Mapped {A B : Type 0} (o : Option A) (f : A → B) (b : B) : Type 0 where
-  first : A
-  is : o ≡ Some first
-  made : f first ≡ b
-
-mapped_of : {A B : Type 0} (o : Option A) (f : A → B) (b : B) → option_map f o ≡ Some b → Mapped o f b
-mapped_of None f b e = absurd cc
-mapped_of (Some a) f b e = record { first = a; is = refl; made = inside (f a) b e }
-
-edit_plain : (id : List ℕ) (query : Option Revision) (document : Value) (rev : Option Revision) (deleted : Bool) (body : Value) → edit_of id query document ≡ Some (sent_with (rev, deleted) body) → is_plain body ≡ true
-edit_plain id query document rev deleted body e =
-    let k = then_of (sent_in id document) (λ sent. with_named_revision query sent) (sent_with (rev, deleted) body) e in
-    let m = mapped_of (named_revision query k.first.rev) _ (sent_with (rev, deleted) body) k.then in
-    ap is_plain (sym (along sent_with (λ x. x.body) _ (sent_with (rev, deleted) body) m.made)) ∙ sent_plain id document k.first.rev k.first.deleted k.first.body k.is
 
 -- ---- revisions of edits
 
@@ -228,7 +146,7 @@ edit_clean terms db id query document w writable k =
     (follow_low k.parent (λ r is. writable id r (base_known h k.sent.rev r (k.follows ∙ ap (λ (o : Option Revision). Some o) is))) next.0)) in
     let path : (s : Revision) → StandsIn (k.rev ∷ ancestors_of_parent h k.parent) s → IsKnownAt db id s ⊎ IsTrue (is_revision s) =
     λ s i. ⊎_elim (λ e. inr (subst (λ (r : Revision). IsTrue (is_revision r)) e good)) (λ j. inl (stands_known h k.parent s j)) i in
-    subst (IsClean db) (sym k.is) (record { body = edit_plain id query document k.sent.rev k.sent.deleted k.sent.body k.says; path = path })
+    subst (IsClean db) (sym k.is) (record { path = path })
 
 -- ---- revisions of replicated documents
 
@@ -307,4 +225,4 @@ pub replicated_clean : (terms : Terms) (db : Database) (id : List ℕ) (document
 replicated_clean terms db id document w k =
     let path : (s : Revision) → StandsIn k.ancestry.path s → IsKnownAt db id s ⊎ IsTrue (is_revision s) =
     λ s i. inr (ancestry_good (member_of document (codes "_revisions")) k.sent.rev k.ancestry (λ r is. sent_rev_good id document k.sent.rev k.sent.deleted k.sent.body r k.says is) k.leads s i) in
-    subst (IsClean db) (sym k.taken.1) (record { body = sent_plain id document k.sent.rev k.sent.deleted k.sent.body k.says; path = path })
+    subst (IsClean db) (sym k.taken.1) (record { path = path })

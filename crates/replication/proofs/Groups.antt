@@ -59,14 +59,14 @@ only_of g old new run h =
 handled : (g : Group) (who : Asker) (old : Nodes) (place : ℕ) (m : Message) (r : Reply) (new : Nodes) → Only g who old place m r new → IsHandled Steps old place m r new
 handled g who old place m r new h = h.0
 
--- the databases of a group are lawful and replicable, and agree two by two
+-- the databases of a group are lawful, their revisions can be written, and they agree two by two
 record Agreed (g : Group) (nodes : Nodes) : Type 0 where
   lawful : LawfulAt nodes
   sound : (place : ℕ) (name : List ℕ) → g.databases place name ≡ true → IsSound (database_at nodes place name)
   agree : (p : ℕ) (k : List ℕ) (q : ℕ) (l : List ℕ) → g.databases p k ≡ true → g.databases q l ≡ true → Agree (database_at nodes p k) (database_at nodes q l)
 
 agreed_so : (g : Group) (nodes : Nodes) → LawfulAt nodes → IsInAgreement g nodes → Agreed g nodes
-agreed_so g nodes lawful a = record { lawful = lawful; sound = λ place name member. sound_at nodes place name lawful (a.replicable place name member); agree = a.agree }
+agreed_so g nodes lawful a = record { lawful = lawful; sound = λ place name member. sound_at nodes place name lawful (a.writable place name member); agree = a.agree }
 
 -- the databases of the group stay in agreement, and grow
 record Spares (g : Group) (old new : Nodes) : Type 0 where
@@ -352,7 +352,7 @@ module _ (g : Group) (base : Nodes) where
 holds_first : (g : Group) (old : Network Contents) → IsReady g old → IsInAgreement g old.nodes → LawfulAt old.nodes → Holds g old.nodes old
 holds_first g old ready agreed lawful = record {
   lawful = lawful;
-  sound = λ place name member. sound_at old.nodes place name lawful (agreed.replicable place name member);
+  sound = λ place name member. sound_at old.nodes place name lawful (agreed.writable place name member);
   agree = agreed.agree;
   later = λ place name member. later_itself (database_at old.nodes place name);
   passes = λ n t ours is. fresh_stands g old.nodes t (ready.fresh n t ours is);
@@ -366,10 +366,7 @@ groups_agree g ss old new ready course agreed =
     let all = all_lawful old.nodes ready.lawful in
     let by : LawfulAt old.nodes → Holds g old.nodes new = holds_now g ss old new ready course agreed in
     record {
-      replicable = λ place name member. record {
-        plain = λ id r d e. ∥∥₁_elim all (Bool-set _ _) (λ lawful. ((by lawful).sound place name member).plain id r d e);
-        writable = λ id r known. ∥∥₁_elim all (Bool-set _ _) (λ lawful. ((by lawful).sound place name member).writable id r known);
-      };
+      writable = λ place name member id r known. ∥∥₁_elim all (Bool-set _ _) (λ lawful. ((by lawful).sound place name member).writable id r known);
       agree = λ p k q l one other id. record {
         parents = λ r there back. ∥∥₁_elim all (Coded-set (coded_option revision_code) _ _) (λ lawful. ((by lawful).agree p k q l one other id).parents r there back);
         held = λ r d e there back. ∥∥₁_elim all (Coded-set held_code _ _) (λ lawful. ((by lawful).agree p k q l one other id).held r d e there back);

@@ -7,8 +7,8 @@ use Rattle.std.proofs.lemmas.Map.Text.{is_eq-slice_cmp}
 use Rattle.std.proofs.lemmas.Slice.Eq.{bytes_eq-Decides}
 use Rattle.couch_json.specs.Value.{Value, Members, no_members, member, member_at, put}
 use Rattle.tree.proofs.RevisionText.{parts}
-use Rattle.write.specs.Document.{is_special, without_special}
-use Rattle.replication.specs.Sound.{are_plain}
+use Rattle.store.specs.SpecialMembers.{are_plain, is_special}
+use Rattle.write.specs.Document.{without_special}
 
 not_true : (b : Bool) → not b ≡ true → b ≡ false
 not_true true e = sym e

@@ -35,7 +35,7 @@ use Rattle.replication.specs.Appended.{KeepsDocuments}
 use Rattle.replication.specs.Converged.{HasCopiedAll, IsPair}
 use Rattle.replication.specs.Crossing.{Crossed, Crosses, PairState, Move, goes_back, goes_there, others}
 use Rattle.replication.specs.Networks.{AreAhead, AreOpposite, AreTheirs, BecomesAt, QuietCourse, HasEnded, IsAhead, ArrangesPasses, IsOneOf, KeepsBoth, PassesOfANetworkConverge, QuietStage, StaysOrStarts, TwoPasses, arranges, runs, AreReconcilable, CoursesKeepAgreement, CoursesKeepBoth}
-use Rattle.replication.specs.Sound.{IsReplicable, IsSound}
+use Rattle.replication.specs.Sound.{AreWritable, IsSound}
 use Rattle.replication.proofs.Handlings.{Nodes, into, lawful_after}
 use Rattle.replication.proofs.Others.{others_asked, others_service}
 use Rattle.replication.proofs.Quiet.{same_documents}
@@ -329,11 +329,11 @@ module _ (p q : ℕ) (t u : Transfer) (base : Nodes) where
 
 -- ---- from the start to the end
 
--- the lawful databases of the nodes, and plain bodies and revisions that can be written
-pub sound_at : (nodes : Nodes) (place : ℕ) (name : List ℕ) → LawfulAt nodes → IsReplicable (database_at nodes place name) → IsSound (database_at nodes place name)
-sound_at nodes place name lawful clean =
+-- the lawful databases of the nodes, and revisions that can be written
+pub sound_at : (nodes : Nodes) (place : ℕ) (name : List ℕ) → LawfulAt nodes → AreWritable (database_at nodes place name) → IsSound (database_at nodes place name)
+sound_at nodes place name lawful writable =
     let k = lawful_at nodes place name lawful in
-    record { documents = k.documents; sequences = k.sequences; plain = clean.plain; writable = clean.writable }
+    record { documents = k.documents; apart = k.apart; sequences = k.sequences; writable = writable }
 
 batch_told : (batch : Option ℕ) → IfSome batch (λ size. (1 ≤ size) × (size ≤ 1000)) → IfSome batch (λ size. 1 ≤ size)
 batch_told None h = tt
@@ -437,14 +437,8 @@ networks_agree two ss old new o s course pair =
     let all = all_lawful old.nodes s.lawful in
     let by : LawfulAt old.nodes → IsPair (source_of two.there new) (target_of two.there new) = λ lawful. met_pair two old.nodes new (met two ss old new o s course pair lawful) in
     record {
-      one = record {
-        plain = λ id r d e. ∥∥₁_elim all (Bool-set _ _) (λ lawful. (by lawful).one.plain id r d e);
-        writable = λ id r known. ∥∥₁_elim all (Bool-set _ _) (λ lawful. (by lawful).one.writable id r known);
-      };
-      other = record {
-        plain = λ id r d e. ∥∥₁_elim all (Bool-set _ _) (λ lawful. (by lawful).other.plain id r d e);
-        writable = λ id r known. ∥∥₁_elim all (Bool-set _ _) (λ lawful. (by lawful).other.writable id r known);
-      };
+      one = λ id r known. ∥∥₁_elim all (Bool-set _ _) (λ lawful. (by lawful).one.writable id r known);
+      other = λ id r known. ∥∥₁_elim all (Bool-set _ _) (λ lawful. (by lawful).other.writable id r known);
       agree = λ id. record {
         parents = λ r there back. ∥∥₁_elim all (Coded-set (coded_option revision_code) _ _) (λ lawful. ((by lawful).agree id).parents r there back);
         held = λ r d e there back. ∥∥₁_elim all (Coded-set held_code _ _) (λ lawful. ((by lawful).agree id).held r d e there back);

@@ -1,4 +1,4 @@
--- Whatever a node answers, bodies stay plain and revisions can be written.
+-- Whatever a node answers, revisions can be written.
 use Rattle.std.proofs.Common.{◌⊎◌, ◌≢◌, ◌≡◌, inl, inr, ℕ, List, [], ◌∷◌, Bool, true, false, cond, Option, Some, None, Result, Ok, Err, bytes_eq, is_none, refl, sym, ap, ◌∙◌, subst}
 use Rattle.std.specs.Prelude.{⊤, is_some, option_and_then, slice_set}
 use Rattle.std.specs.FinMap.{empty, get, get-empty, get-remove, insert, remove}
@@ -57,27 +57,20 @@ use Rattle.node.proofs.Tasks.{same, there, went}
 use Rattle.replication.specs.Courses.{GoesBy, Stage, arranges, runs}
 use Rattle.replication.specs.Runs.{Run}
 use Rattle.world.specs.Network.{Network}
-use Rattle.replication.specs.Replicable.{AreAll, HaveWritable, CoursesKeepWritable, RunsKeepReplicable, RunsKeepWritable, StepsKeepReplicable, StepsKeepWritable}
-use Rattle.replication.specs.Sound.{AreWritable, IsReplicable}
-use Rattle.replication.proofs.Cleanly.{AreClean, IsClean, edit_clean, one_stays, one_writable, replicated_clean}
+use Rattle.replication.specs.Replicable.{HaveWritable, CoursesKeepWritable, RunsKeepWritable, StepsKeepWritable}
+use Rattle.replication.specs.Sound.{AreWritable}
+use Rattle.replication.proofs.Cleanly.{AreClean, IsClean, edit_clean, one_writable, replicated_clean}
 use Rattle.replication.proofs.Quiet.{get_put}
 
 -- a database that nothing was written in
-new_stays : IsReplicable new_database
-new_stays = record {
-  plain = λ id r d e. absurd (no_held (get new_database.documents id) (none id) r d e);
-  writable = λ id r e. absurd (no_known (get new_database.documents id) (none id) r e);
-}
+new_writable : AreWritable new_database
+new_writable id r e = absurd (no_known (get new_database.documents id) (none id) r e)
   where
     none : (id : List ℕ) → get new_database.documents id ≡ None
     none id = get-empty {X = Document} (slice_cmp nat_cmp) id
 
     bare : (r : Revision) → get {X = Entry} {R = revision_cmp} empty r ≡ None
     bare r = get-empty {X = Entry} revision_cmp r
-
-    no_held : (o : Option Document) → o ≡ None → (r : Revision) (d : Held) → held_of (history_in o) r ≡ Some d → ⊥
-    no_held None is r d e = let k : None ≡ Some d = ap (λ (x : Option Entry). option_and_then (λ (y : Entry). y.held) x) (sym (bare r)) ∙ e in cc
-    no_held (Some x) is r d e = cc
 
     no_known : (o : Option Document) → o ≡ None → (r : Revision) → is_known (history_in o) r ≡ true → ⊥
     no_known None is r e = false≢true (ap (λ (x : Option Entry). is_some x) (sym (bare r)) ∙ e)
@@ -355,16 +348,8 @@ module _ (P : Database → Type 0) (writable : (db : Database) → P db → AreW
 no_database : (name : List ℕ) (db : Database) → get {X = Database} {R = slice_cmp nat_cmp} empty name ≡ Some db → ⊥
 no_database name db e = let k : None ≡ Some db = sym (get-empty {X = Database} (slice_cmp nat_cmp) name) ∙ e in cc
 
-replicable_stays : (c : auth.Configuration) (a : Contents) (m : Message) (r : Reply) (after : Contents) → Steps c a m r after → AreAll IsReplicable a → AreAll IsReplicable after
-replicable_stays =
-    step_stays IsReplicable (λ db h. h.writable) new_stays one_stays (λ db security h. record { plain = h.plain; writable = h.writable })
-    (λ db id document h. record { plain = h.plain; writable = h.writable })
-
 writable_stays : (c : auth.Configuration) (a : Contents) (m : Message) (r : Reply) (after : Contents) → Steps c a m r after → HaveWritable a → HaveWritable after
-writable_stays = step_stays AreWritable (λ db h. h) new_stays.writable one_writable (λ db security h. h) (λ db id document h. h)
-
-pub keep_replicable : StepsKeepReplicable
-keep_replicable = record { none = λ name db e. absurd (no_database name db e); steps = replicable_stays }
+writable_stays = step_stays AreWritable (λ db h. h) new_writable one_writable (λ db security h. h) (λ db id document h. h)
 
 pub keep_writable : StepsKeepWritable
 keep_writable = record { none = λ name db e. absurd (no_database name db e); steps = writable_stays }
@@ -400,9 +385,6 @@ module _ (Q : Contents → Type 0) (steps : (c : auth.Configuration) (a : Conten
   stages_stay [] old new g h = subst (λ (x : Network Contents). AtAll x.nodes) (sym g) h
   stages_stay (runs ∷ ss) old new (between, run, rest) h = stages_stay ss between new rest (run_stays old between run h)
   stages_stay (arranges ∷ ss) old new (between, arranged, rest) h = stages_stay ss between new rest (subst AtAll (sym arranged.nodes) h)
-
-pub runs_keep : RunsKeepReplicable
-runs_keep = run_stays (AreAll IsReplicable) replicable_stays
 
 pub runs_keep_writable : RunsKeepWritable
 runs_keep_writable = run_stays HaveWritable writable_stays

@@ -34,6 +34,7 @@ bare db = record db { locals = empty }
 no_locals : (db : Database) → IsSound db → IsLawfulDatabase (bare db)
 no_locals db s = record {
   documents = s.documents;
+  apart = s.apart;
   sequences = record { positive = s.sequences.positive; within = s.sequences.within; distinct = s.sequences.distinct };
   locals = λ id d is. absurd (let none = sym (get-empty {X = LocalDocument} (slice_cmp nat_cmp) id) ∙ is in cc);
 }
@@ -86,11 +87,11 @@ one_held source target w sound c id r d =
 
 one_sound : (source target : Database) (w : DocumentWrite) → IsSound source → IsSound target → ComesFrom source w → IsAcceptable target w → IsSound (with_one target w)
 one_sound source target w from s c ok =
-    let lawful : IsLawfulDatabase (with_one (bare target) w) = lawful_by_one (bare target) w (no_locals target s) (record { placed = ok.placed; body = ok.body; shallow = ok.shallow }) in
+    let lawful : IsLawfulDatabase (with_one (bare target) w) = lawful_by_one (bare target) w (no_locals target s) (record { apart = ok.apart; placed = ok.placed; body = ok.body; shallow = ok.shallow; plain = ok.plain }) in
     record {
       documents = lawful.documents;
+      apart = lawful.apart;
       sequences = record { positive = lawful.sequences.positive; within = lawful.sequences.within; distinct = lawful.sequences.distinct };
-      plain = λ id r d e. ⊎_elim (λ k. s.plain id r d k) (λ k. from.plain id r d k) (one_held source target w from c id r d e);
       writable = λ id r known. ⊎_elim (λ k. s.writable id r k) (λ k. from.writable id r k) (one_known source target w from c id r known);
     }
 
@@ -136,12 +137,12 @@ same_keeps old new k id r known = ap (λ (h : HistoryContent). get h r) (same_hi
 pub same_sound : (old new : Database) → KeepsDocuments old new → IsSound old → IsSound new
 same_sound old new k s = record {
   documents = λ id d is. s.documents id d (back id d is);
+  apart = λ id d is. s.apart id d (back id d is);
   sequences = record {
     positive = λ id d is. s.sequences.positive id d (back id d is);
     within = λ id d is. subst (λ (n : ℕ). d.sequence ≤ n) (sym k.length) (s.sequences.within id d (back id d is));
     distinct = λ id other d e is was same. s.sequences.distinct id other d e (back id d is) (back other e was) same;
   };
-  plain = λ id r d e. s.plain id r d (ap (λ (h : HistoryContent). held_of h r) (sym (same_history old new k id)) ∙ e);
   writable = λ id r known. s.writable id r (ap (λ (h : HistoryContent). is_known h r) (sym (same_history old new k id)) ∙ known);
 }
   where

@@ -16,7 +16,8 @@ use Rattle.read.specs.Shown.{shown_document}
 use Rattle.write.specs.Document.{Ancestry, ancestry_by, ancestry_if_newest, ancestry_in, body_for, body_if, body_in, item_count, fits_id, id_in_bulk, ids_in, is_body_for, is_bulk_id, is_newest, mark_in, member_text, onto, path_of_hashes, given_revision, revisions_if, ancestry_given, sent_in, sent_with, start_in, without_special, words_in}
 use Rattle.passes.proofs.MemberLemmas.{put_at_other, put_at_same}
 use Rattle.replication.specs.Appended.{ComesFrom, IsSaidBy, IsShownBy}
-use Rattle.replication.specs.Sound.{IsSound, is_plain}
+use Rattle.replication.specs.Sound.{IsSound}
+use Rattle.store.specs.SpecialMembers.{is_plain}
 use Rattle.replication.proofs.PlainMembers.{plain_lacks, plain_whole, put_special}
 use Rattle.replication.proofs.Replicas.{KeepsAll, body_at, rooted_at}
 use Rattle.replication.proofs.Writings.{held_known, kept_chain, kept_held, positive}
@@ -225,8 +226,8 @@ comes db id r held w sound holds said =
     let path = path_from h r.number r in
     let chained : chain h r ≡ Some path = ap (λ (b : Bool). cond b (Some path) None) known in
     let s : IsSaidBy (object (shown_all id r path held)) w = subst (λ (o : Option (List Revision)). IsSaidBy (object (with_path r o (shown_members id r held))) w) chained said in
-    let plain = sound.plain id r held holds in
-    let sent = sent_held id w.id r path held s.rev w.write.deleted w.write.body plain (body_at db sound id r held holds).object s.says in
+    let body = body_at db sound id r held holds in
+    let sent = sent_held id w.id r path held s.rev w.write.deleted w.write.body body.plain body.object s.says in
     let led = path_led id r path held s.rev s.ancestry (line_counts h root r.number r refl known).1 s.leads in
     let same : w.id ≡ id = id_said (member_text (codes "_id") (object (shown_all id r path held))) id w.id (ap (λ (o : Option Value). option_and_then (λ m. text_in m) o) (id_shown id r path held)) s.named in
     let brought : held_of_write w.write ≡ held = (λ i. let x : Held = record { deleted = sent.0 i; body = sent.1 i } in x) in

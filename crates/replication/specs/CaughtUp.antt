@@ -81,7 +81,7 @@ OnePassCatchesUp =
 
 -- ---- a quiet network
 
--- A quiet network agrees. At first the databases of a group agree two by two, their bodies are plain and their revisions can be written. Its
+-- A quiet network agrees. At first the databases of a group agree two by two, and their revisions can be written. Its
 -- passes go on, and what others write leaves the databases in agreement. Where each database on the ways there and back has caught up with the
 -- one before, both ends have the same tree of each document.
 abbrev pub QuietNetworksAgree : Type 0

@@ -16,7 +16,7 @@ use Rattle.replication.specs.Requests.{Handled, requests_of}
 use Rattle.replication.specs.Runs.{Run}
 use Rattle.replication.specs.Appended.{KeepsDocuments}
 use Rattle.replication.specs.Networks.{BecomesAt, Spares, QuietStage, arranges, runs}
-use Rattle.replication.specs.Sound.{Agree, IsReplicable}
+use Rattle.replication.specs.Sound.{Agree, AreWritable}
 
 -- Which databases, each by the number of its node and its name; and which passes, each by its number.
 pub record Group : Type 0 where
@@ -25,9 +25,9 @@ pub record Group : Type 0 where
 
 -- ---- agreement
 
--- bodies are plain and revisions can be written in each database of a group, and the databases agree two by two
+-- revisions can be written in each database of a group, and the databases agree two by two
 pub record IsInAgreement (g : Group) (nodes : List (Serving Contents)) : Type 0 where
-  pub replicable : (place : ℕ) (name : List ℕ) → g.databases place name ≡ true → IsReplicable (database_at nodes place name)
+  pub writable : (place : ℕ) (name : List ℕ) → g.databases place name ≡ true → AreWritable (database_at nodes place name)
   pub agree : (p : ℕ) (k : List ℕ) (q : ℕ) (l : List ℕ) → g.databases p k ≡ true → g.databases q l ≡ true → Agree (database_at nodes p k) (database_at nodes q l)
 
 -- ---- requests

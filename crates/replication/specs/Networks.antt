@@ -25,7 +25,7 @@ use Rattle.replication.specs.Runs.{Run}
 use Rattle.replication.specs.Agreement.{HaveSameTree}
 use Rattle.replication.specs.Appended.{KeepsDocuments}
 use Rattle.replication.specs.Converged.{HasCopiedAll}
-use Rattle.replication.specs.Sound.{Agree, IsReplicable}
+use Rattle.replication.specs.Sound.{Agree, AreWritable}
 
 -- The database of this name at the node of this number, or a new one where there is none, became this; and where there is one, it is there
 -- afterwards.
@@ -113,10 +113,10 @@ pub record HasEnded (n : ℕ) (now : Network Contents) : Type 0 where
   pub there : transfer_at now.transfers n ≡ Some transfer
   pub copied : HasCopiedAll transfer.pass
 
--- bodies are plain and revisions can be written in both databases, and they agree
+-- revisions can be written in both databases, and they agree
 pub record AreReconcilable (a b : Database) : Type 0 where
-  pub one : IsReplicable a
-  pub other : IsReplicable b
+  pub one : AreWritable a
+  pub other : AreWritable b
   pub agree : Agree a b
 
 -- At every moment of such a course the two databases agree, if they did at first.
@@ -133,7 +133,7 @@ CoursesKeepBoth =
 
 -- Two passes of a network in opposite directions converge: where both have copied all, and nobody else wrote a document since before both
 -- asked for the first time, their databases have the same tree of each document, with the same leaves and the same winner. At the start
--- bodies are plain, revisions can be written, and the databases agree.
+-- revisions can be written, and the databases agree.
 abbrev pub PassesOfANetworkConverge : Type 0
 PassesOfANetworkConverge =
     (two : TwoPasses) (ss : List QuietStage) (old new : Network Contents) → AreOpposite two.there two.back → AreAhead two old → QuietCourse two ss old new

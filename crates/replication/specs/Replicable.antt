@@ -1,5 +1,5 @@
 -- Databases that can be replicated both ways: what each answer of a node keeps, from an empty store on.
--- CouchDB manual, api/document/common ("Special Fields"); the words are this project's own.
+-- The words are this project's own.
 use Rattle.std.specs.Prelude.{◌≡◌, ◌<◌, ℕ, true, List, Some, IsTrue}
 use Rattle.std.specs.FinMap.{empty, get}
 use Rattle.std.specs.List.{slice_get}
@@ -22,7 +22,7 @@ use Rattle.replication.specs.Courses.{Course}
 use Rattle.replication.specs.Finished.{PassBegins, ListsLast, source_of, target_of}
 use Rattle.replication.specs.Requests.{DatabasesStay, requests_of}
 use Rattle.replication.specs.Runs.{Run, pass_at}
-use Rattle.replication.specs.Sound.{AreWritable, IsReplicable}
+use Rattle.replication.specs.Sound.{AreWritable}
 
 -- ---- what each answer keeps of databases
 
@@ -43,17 +43,7 @@ AreAllAtNodes P nodes = (place : ℕ) (node : Serving Contents) → slice_get no
 abbrev pub RunsKeep : (Database → Type 0) → Type 0
 RunsKeep P = (old new : Network Contents) → Run (alike Steps) old new → AreAllAtNodes P old.nodes → AreAllAtNodes P new.nodes
 
--- ---- plain bodies, and revisions that can be written
-
--- each answer of a node keeps plain bodies and revisions that can be written
-abbrev pub StepsKeepReplicable : Type 0
-StepsKeepReplicable = StepsKeep IsReplicable
-
--- each run of a network keeps that
-abbrev pub RunsKeepReplicable : Type 0
-RunsKeepReplicable = RunsKeep IsReplicable
-
--- ---- revisions that can be written, whatever bodies are
+-- ---- revisions that can be written
 
 -- each known revision of each database can be written
 abbrev pub HaveWritable : Contents → Type 0

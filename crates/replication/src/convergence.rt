@@ -8,7 +8,7 @@ ghost use Rattle.replication.specs.Converged.{NewRevisionsKeepAgreement, WritesK
 ghost use Rattle.replication.specs.Groups.{CallsArrangeForGroups, GroupsKeepAgreement, SparingGroups};
 ghost use Rattle.replication.specs.Networks.{CallsArrange, CoursesKeepAgreement, CoursesKeepBoth, PassesOfANetworkConverge, SparingRuns};
 ghost use Rattle.replication.specs.Replicable.{CoursesKeepWritable, DonePassesOweNoLeaf, NodesAreWritable};
-ghost use Rattle.replication.specs.Replicable.{RunsKeepReplicable, RunsKeepWritable, StepsKeepReplicable, StepsKeepWritable};
+ghost use Rattle.replication.specs.Replicable.{RunsKeepWritable, StepsKeepWritable};
 ghost use Rattle.replication.specs.Ways.{RingsMeet, WaysMeet};
 ghost use Rattle.replication.specs.Written.{OpenedAreShown, OtherCallsWriteNothing, PushesAppendWhatIsSaid};
 
@@ -56,15 +56,8 @@ pub fn opened_documents_are_shown()
     ensures { OpenedAreShown }
 {}
 
-/// Whatever a node answers, the bodies in its databases stay plain, and their revisions can be written as
-/// text. So it is through each run of a network.
-pub fn answers_keep_databases_replicable()
-    ensures steps { StepsKeepReplicable }
-    ensures runs { RunsKeepReplicable }
-{}
-
-/// Whatever a node answers, revisions can be written as text, where they could before, whatever the bodies
-/// are. So it is through each run of a network, and through each course.
+/// Whatever a node answers, revisions can be written as text, where they could before. So it is through
+/// each run of a network, and through each course.
 pub fn answers_keep_revisions_writable()
     ensures steps { StepsKeepWritable }
     ensures runs { RunsKeepWritable }

@@ -33,12 +33,16 @@ fn put_plan(plan: &Plan, out: &mut String) -> Result<(), RowsFault> {
             conns,
             at_once,
             cache,
+            log,
             admins,
         } => {
             write!(
                 out,
                 "serve {file} at {port}, {conns} connections, {at_once} at once, cache {cache} MB"
             )?;
+            if *log {
+                out.push_str(", logged")?;
+            }
             put_users(secret, admins, out)
         }
         Plan::Sync(plan) => put_sync(plan, out),

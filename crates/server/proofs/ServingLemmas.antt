@@ -5,7 +5,7 @@ use Rattle.std.specs.Prelude.{OnErr, Result, Ok, Err}
 use Rattle.store.specs.declared.store.Store.{Ghosts}
 use Rattle.hub.specs.Feeding.{HubState}
 use Rattle.server.specs.Accepting.{AreConnections, Serves, ServesEach, ServesOne}
-use Rattle.server.specs.Serving.{ServesMany}
+use Rattle.server.specs.Serving.{ServesMany, ServesManyWithin, limits_of}
 use Rattle.server.specs.declared.acceptance.Acceptance.{Acceptance}
 use Rattle.server.specs.declared.acceptance.Acceptance.TheVariants.{Failed}
 
@@ -73,3 +73,11 @@ on_err (Err e) x = x
 -- where nothing was done
 pub serves_none : {S : Type 0} (g : Ghosts S) (hub : HubState S) → ServesMany g hub hub
 serves_none g hub = (None, None, record { deeds = []; standings = empty; logs = tt; runs = refl })
+
+-- and within any limits, where that is a refusal
+pub within_none : {S A E : Type 0} (g : Ghosts S) (conns at_once : ℕ) (e : E) (hub : HubState S) → ServesManyWithin g (limits_of conns at_once) (Err {A} e) hub hub
+within_none g conns at_once e hub = (
+  None,
+  None,
+  record { deeds = []; standings = empty; logs = tt; runs = (omega arith, refl); accepts = omega arith; opens = omega arith; ends = tt },
+)

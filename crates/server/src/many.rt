@@ -2,13 +2,14 @@
 
 ghost use Rattle.std.specs.Prelude.{◌≡◌, IfErr, IfOk};
 ghost use Rattle.store.specs.Calls.{GoesOn};
+ghost use Rattle.engine.specs.Counts.{ServesWithin};
 ghost use Rattle.engine.specs.Desks.{ServesAll};
-ghost use Rattle.server.specs.Serving.{ServesMany};
+ghost use Rattle.server.specs.Serving.{ServesMany, ServesManyWithin, limits_of};
 
 use crate::address::{print_address, socket_fault};
 use command_line::ProgramFault;
 use engine::{EngineFault, Limits, Sockets, serve_all};
-use hub::Hub;
+use hub::{FailureLog, Hub};
 use sockets::Port;
 use std::alloc::Global;
 use std::net::Net;
@@ -27,16 +28,17 @@ const REQUEST: u64 = 30;
 ///
 /// `Socket`: the port can't be bound, nothing be waited for, or a connection not be accepted. `File`:
 /// the line can't be printed. `Memory`: memory ran out before it listened.
-#[tactic(auto, using(crate::proofs::ServingLemmas::serves_none))]
-pub fn serve_many<R: Net + Clock + Print + AllocGlobal, S: Store + Drop>(
+#[tactic(auto, using(crate::proofs::ServingLemmas::serves_none, crate::proofs::ServingLemmas::within_none))]
+pub fn serve_many<R: Net + Clock + Print + AllocGlobal, S: Store + Drop, L: FailureLog + Drop>(
     rt: &R,
-    hub: &mut Hub<S>,
+    hub: &mut Hub<S, L>,
     port: u16,
     conns: u32,
     at_once: u32,
 ) -> Result<u8, ProgramFault>
     ensures status { IfOk result (λ status. status ≡ 0) }
     ensures served { ServesMany S.Store hub.old hub.new }
+    ensures within { ServesManyWithin S.Store (limits_of conns at_once) result hub.old hub.new }
     ensures configuration { hub.new.node.configuration ≡ hub.old.node.configuration }
     ensures onward { GoesOn S.Store hub.old.node.store hub.new.node.store }
 {
@@ -59,9 +61,9 @@ fn open_port<R: Net + Clock + AllocGlobal>(rt: &R, port: u16) -> Result<Port<'_,
 /// A connection is closed where it is silent for 60 seconds, or where a request of it is not whole 30
 /// seconds after its first byte. The only refusal is `Socket`: nothing could be waited for, or a
 /// connection not be accepted.
-pub fn serve_sockets<S: Store + Drop, W: Sockets>(
+pub fn serve_sockets<S: Store + Drop, L: FailureLog + Drop, W: Sockets>(
     alloc: Global,
-    hub: &mut Hub<S>,
+    hub: &mut Hub<S, L>,
     sockets: &mut W,
     conns: u32,
     at_once: u32,
@@ -70,6 +72,10 @@ pub fn serve_sockets<S: Store + Drop, W: Sockets>(
 
     // All that was done is told by the acts that were logged.
     ensures served { ServesAll S.Store (record { hub = hub.old; log = W.log sockets.old }) (record { hub = hub.new; log = W.log sockets.new }) }
+
+    // Just so many connections are accepted, and never more than that; at most `at_once` of them are open at a time.
+    ensures within { ServesWithin S.Store (limits_of conns at_once) result (record { hub = hub.old; log = W.log sockets.old })
+        (record { hub = hub.new; log = W.log sockets.new }) }
     ensures configuration { hub.new.node.configuration ≡ hub.old.node.configuration }
     ensures onward { GoesOn S.Store hub.old.node.store hub.new.node.store }
     ensures socket { IfErr result (λ fault. fault ≡ ProgramFault.Socket) }

@@ -3,11 +3,13 @@
 ghost use Rattle.std.specs.Prelude.{◌≡◌, IfOk};
 
 use crate::address::{print_address, socket_fault};
+use crate::error_log::{ErrorLog, print_end};
 use crate::listening::LoggedListener;
 use crate::many::serve_many;
 use crate::serving::{open_hub, serve};
 use command_line::ProgramFault;
-use hub::Hub;
+use hub::{FailureLog, Hub};
+use std::io::Eprint;
 use std::net::{Ipv4Addr, Net, OpenListener, SocketAddr, TcpListener, TcpStream};
 use std::time::{Clock, Duration};
 use store::Store;
@@ -19,9 +21,15 @@ const PATIENCE: u64 = 30;
 /// after another where `at_once` is 1, else at most `at_once` at a time. Once it listens it prints
 /// `listening 127.0.0.1:` and the port. The answer is the program's status.
 ///
+/// Where `is_logged`, it prints a line on standard error for each reply of 500, and one for its end: when,
+/// and why.
+///
 /// `Socket`: the port can't be bound, or a connection not be accepted. `File`: the line can't be
 /// printed. `Memory`: memory ran out.
-pub fn serve_store<R: Net<Stream = TcpStream> + Clock + Print + AllocGlobal, S: Store + Drop>(
+pub fn serve_store<
+    R: Net<Stream = TcpStream> + Clock + Print + Eprint + AllocGlobal,
+    S: Store + Drop,
+>(
     rt: &R,
     secret: &str,
     admins: &[String],
@@ -29,10 +37,29 @@ pub fn serve_store<R: Net<Stream = TcpStream> + Clock + Print + AllocGlobal, S: 
     port: u16,
     conns: u32,
     at_once: u32,
+    is_logged: bool,
 ) -> Result<u8, ProgramFault>
     ensures { IfOk result (λ status. status ≡ 0) }
 {
-    let mut hub = open_hub(rt.alloc(), secret, admins, store)?;
+    let log = ErrorLog::new(rt, is_logged);
+    let served = match open_hub(rt.alloc(), secret, admins, store, log) {
+        Ok(hub) => serve_hub(rt, hub, port, conns, at_once),
+        Err(fault) => Err(fault),
+    };
+    if is_logged {
+        print_end(rt, &served);
+    }
+    served
+}
+
+/// Serves a hub at a port of 127.0.0.1, for one connection after another or for many at once.
+fn serve_hub<
+    R: Net<Stream = TcpStream> + Clock + Print + AllocGlobal,
+    S: Store + Drop,
+    F: FailureLog + Drop,
+>(rt: &R, mut hub: Hub<S, F>, port: u16, conns: u32, at_once: u32) -> Result<u8, ProgramFault>
+    ensures { IfOk result (λ status. status ≡ 0) }
+{
     if at_once > 1 {
         serve_many(rt, &mut hub, port, conns, at_once)
     } else {
@@ -42,9 +69,9 @@ pub fn serve_store<R: Net<Stream = TcpStream> + Clock + Print + AllocGlobal, S: 
 
 /// Serves so many connections of a hub at a port of 127.0.0.1, one after another. A connection ends
 /// where a read or a write of it waits for 30 seconds.
-fn serve_each<R: Net<Stream = TcpStream> + Print, S: Store + Drop>(
+fn serve_each<R: Net<Stream = TcpStream> + Print, S: Store + Drop, F: FailureLog + Drop>(
     rt: &R,
-    hub: &mut Hub<S>,
+    hub: &mut Hub<S, F>,
     port: u16,
     conns: u32,
 ) -> Result<u8, ProgramFault>

@@ -11,7 +11,7 @@ ghost use Rattle.server.specs.declared.acceptance.Acceptance.TheVariants.{Failed
 use crate::listening::LoggedListener;
 use auth::Auth;
 use command_line::ProgramFault;
-use hub::{Hub, ServiceEnd, serve_connection};
+use hub::{FailureLog, Hub, ServiceEnd, serve_connection};
 use node::{Node, Routes};
 use std::alloc::Global;
 use std::io::{ErrorKind, Read};
@@ -45,22 +45,25 @@ pub fn open_node<S: Store + Drop>(
     Ok(Node::new(alloc, store, auth, routes))
 }
 
-/// Makes the hub of a server over a store, with this secret and these admins, and without connections.
+/// Makes the hub of a server over a store, with this secret and these admins, and without connections. The
+/// log is told of each reply of 500.
 ///
 /// The only refusal is `Memory`.
-pub fn open_hub<S: Store + Drop>(
+pub fn open_hub<S: Store + Drop, L: FailureLog + Drop>(
     alloc: Global,
     secret: &str,
     admins: &[String],
     store: S,
-) -> Result<Hub<S>, ProgramFault>
+    log: L,
+) -> Result<Hub<S, L>, ProgramFault>
     ensures store { IfOk result (λ hub. hub.node.store ≡ store) }
     ensures configuration { IfOk result (λ hub. hub.node.configuration ≡ record { secret = secret.now; admins = map string_bytes admins.now }) }
     ensures connections { IfOk result (λ hub. hub.connections ≡ no_connections) }
+    ensures failures { IfOk result (λ hub. hub.failures ≡ L.told log) }
     ensures memory { IfErr result (λ fault. fault ≡ ProgramFault.Memory) }
 {
     let node = open_node(alloc, secret, admins, store)?;
-    Ok(Hub::new(alloc, node))
+    Ok(Hub::with_log(alloc, node, log))
 }
 
 /// Serves so many connections of a hub, one after another. The answer is the program's status, 0.
@@ -68,8 +71,8 @@ pub fn open_hub<S: Store + Drop>(
 /// A read or a write that waits longer than `patience` has failed. A connection whose bytes can't be
 /// read or written ends, and the next one is served. One that was reset before it was accepted counts.
 /// The only refusal is `Socket`: a connection could not be accepted.
-pub fn serve<S: Store + Drop, L: OpenListener<Stream = TcpStream>>(
-    hub: &mut Hub<S>,
+pub fn serve<S: Store + Drop, F: FailureLog + Drop, L: OpenListener<Stream = TcpStream>>(
+    hub: &mut Hub<S, F>,
     listener: &mut LoggedListener<'_, L>,
     conns: u32,
     patience: Duration,
@@ -90,8 +93,8 @@ pub fn serve<S: Store + Drop, L: OpenListener<Stream = TcpStream>>(
 }
 
 /// Serves the next connection.
-fn serve_next<S: Store + Drop, L: OpenListener<Stream = TcpStream>>(
-    hub: &mut Hub<S>,
+fn serve_next<S: Store + Drop, F: FailureLog + Drop, L: OpenListener<Stream = TcpStream>>(
+    hub: &mut Hub<S, F>,
     listener: &mut LoggedListener<'_, L>,
     patience: Duration,
 ) -> Result<(), ProgramFault>
@@ -113,7 +116,11 @@ fn serve_next<S: Store + Drop, L: OpenListener<Stream = TcpStream>>(
 
 /// Serves a connection. Reads and writes that wait longer than `patience` fail, and a reply goes out as
 /// soon as it is written, if the system can do that.
-fn serve_stream<S: Store + Drop>(hub: &mut Hub<S>, stream: &TcpStream, patience: Duration)
+fn serve_stream<S: Store + Drop, F: FailureLog + Drop>(
+    hub: &mut Hub<S, F>,
+    stream: &TcpStream,
+    patience: Duration,
+)
     ensures served { WasServed S.Store hub.old hub.new }
     ensures configuration { hub.new.node.configuration ≡ hub.old.node.configuration }
     ensures onward { GoesOn S.Store hub.old.node.store hub.new.node.store }

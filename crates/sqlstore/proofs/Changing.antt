@@ -2,7 +2,8 @@
 use Rattle.sqlstore.proofs.Common.{Bool, ChangesWhole, Database, Err, Ghosts, HasCleanDisk, Held, Holds, IsKnown, IsStanding, IsStore, IsTrue, KnownDatabase, Moves, None, Ok, OnErr, OnOk, Option, Result, Some, SqlStore, Stands, WasStore, ap, arith, contents_in, contents_of, false, is_honest, is_some, refl, state, subst, sym, ∥∥₁_elim, ∥∥₁_map, ∥∥₁_prop, ◌∙◌, ◌≡◌}
 use Rattle.transactions.proofs.Committing.{on_err}
 use Rattle.transactions.specs.Endings.{Turns}
-use Rattle.sqlstore.proofs.Standing.{indexed_store}
+use Rattle.sqlstore.proofs.Standing.{Follows, indexed_store}
+use Rattle.store.specs.Lawful.{AllEndAtLast}
 use Rattle.transactions.specs.Indexing.{IsIndexedStore}
 use Rattle.index.specs.Indexed.{IsIndexed}
 use Rattle.sqlstore.proofs.Common.{List}
@@ -24,6 +25,7 @@ module _ {S : Type 0} (g : Ghosts S) (old new origin last : Held S) (turns : Tur
         record {
           store = h.store;
           indexed = h.indexed;
+          ends = h.ends;
           now = λ up. (settled up).0 ∙ h.committed (turns.was_open clean up);
           committed = λ up. (settled up).1 ∙ h.committed (turns.was_open clean up);
         }));
@@ -38,12 +40,11 @@ module _ {S : Type 0} (g : Ghosts S) (old new origin last : Held S) (turns : Tur
   -- One that was committed makes a store of one, and this of its rows. So the store stands on the new ones, and it is so of those that the last change left.
   module _ (done : HasCleanDisk (state g new) → IsTrue (state g old).is_open × IsTrue (state g new).is_open × ((state g new).now ≡ (state g new).committed)) (P : Database → Type 0)
       (makes : Known → HasCleanDisk (state g new) → HasCleanDisk (state g old) → WasStore g origin → IsIndexedStore (state g old).now → (state g old).now.trees ≡ (state g last).now.trees
-      → IsIndexedStore (state g new).now × P (state g old).now) where
-    made : Known → HasCleanDisk (state g new) → WasStore g origin → Holds g old last → IsIndexedStore (state g new).now × P (state g last).now
+      → Follows (state g old).now (state g new).now × P (state g old).now) where
+    made : Known → HasCleanDisk (state g new) → WasStore g origin → Holds g old last → Follows (state g last).now (state g new).now × P (state g last).now
     made k clean is h =
         let same = h.now (done clean).0 in
-        let m = makes k clean (turns.clean clean) is (subst IsIndexedStore (sym same) (indexed_store h)) (ap (λ (d : Database). d.trees) same) in
-        (m.0, subst P same m.1)
+        subst (λ d. Follows d (state g new).now × P d) same (makes k clean (turns.clean clean) is (subst IsIndexedStore (sym same) (indexed_store h)) (ap (λ (d : Database). d.trees) same))
 
     -- what is known of those that were asked for before, where the change keeps it
     pub stands_knowing : (then : List KnownDatabase)
@@ -53,8 +54,9 @@ module _ {S : Type 0} (g : Ghosts S) (old new origin last : Held S) (turns : Tur
       idle = turns.idle;
       unlimited = turns.limit ∙ s.unlimited;
       held = λ clean is. ∥∥₁_elim (s.known_so (turns.clean clean) is) ∥∥₁_prop (λ k. ∥∥₁_map (s.held (turns.clean clean) is) (λ h. record {
-        store = subst (λ x. IsStore (state g x).now) (sym is_new) (made k clean is h).0.store;
-        indexed = subst (λ x. IsIndexed (state g x).now.trees) (sym is_new) (made k clean is h).0.indexed;
+        store = subst (λ x. IsStore (state g x).now) (sym is_new) (made k clean is h).0.rows.store;
+        indexed = subst (λ x. IsIndexed (state g x).now.trees) (sym is_new) (made k clean is h).0.rows.indexed;
+        ends = subst (λ x. ∥ AllEndAtLast (contents_in (state g x).now.trees) ∥₁) (sym is_new) (∥∥₁_map h.ends (made k clean is h).0.ends);
         now = λ up. ap (λ x. (state g x).now) (sym is_new);
         committed = λ up. sym (done clean).2 ∙ ap (λ x. (state g x).now) (sym is_new);
       }));
@@ -71,7 +73,7 @@ module _ {S : Type 0} (g : Ghosts S) (old new origin last : Held S) (turns : Tur
   -- the same, whatever is known
   module _ (done : HasCleanDisk (state g new) → IsTrue (state g old).is_open × IsTrue (state g new).is_open × ((state g new).now ≡ (state g new).committed)) (P : Database → Type 0)
       (makes : HasCleanDisk (state g new) → HasCleanDisk (state g old) → WasStore g origin → IsIndexedStore (state g old).now → (state g old).now.trees ≡ (state g last).now.trees
-      → IsIndexedStore (state g new).now × P (state g old).now) where
+      → Follows (state g old).now (state g new).now × P (state g old).now) where
     pub stands : (then : List KnownDatabase)
         → (HasCleanDisk (state g new) → HasCleanDisk (state g old) → WasStore g origin → IsIndexedStore (state g old).now → (state g old).now.trees ≡ (state g last).now.trees
         → AreKnown (state g last).now.trees earlier → AreKnown (state g new).now.trees then) → (next : Held S) → next ≡ new → IsStanding g new origin next None then

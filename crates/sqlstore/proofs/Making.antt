@@ -3,7 +3,7 @@ use Rattle.index.specs.Shown.{declared}
 use Rattle.index.specs.declared.declaration.Declaration.{Declaration}
 use Rattle.transactions.specs.Indexing.{AreAllIndexes}
 use Rattle.sqlstore.proofs.KnownCounts.{uncounted}
-use Rattle.sqlstore.proofs.Common.{Addition, AreDue, Changes, Clears, Database, FoundValues, Global, HasNumber, HasWritten, IfSome, IsBody, IsKnown, IsLawful, IsTrue, KnownDatabase, List, LocalDocument, None, Option, Replaces, Some, Trees, Vec, ap, ap₂, at_sequence, canonical, closed_security, contents_in, database_cells, database_of_row, dbs_tree, filter, found_in, get, insert, inside, is_database_name, is_document_id, is_named, is_security, known_values, length, sequence_of_database, map, new_database, option_map, pos, refl, remove, rows_with_security, slice_get, subst, sym, with_all, with_cells, with_local, with_security, writings_in, ℕ, ℤ, ◌+◌, ◌<◌, ◌^◌, ◌∙◌, ◌≡◌}
+use Rattle.sqlstore.proofs.Common.{Addition, AreDue, Changes, Clears, Database, FoundValues, Global, HasNumber, HasWritten, IfSome, IsKnown, IsLawful, IsTrue, KnownDatabase, List, LocalDocument, None, Option, Replaces, Some, Trees, Vec, ap, ap₂, at_sequence, canonical, closed_security, contents_in, database_cells, database_of_row, dbs_tree, filter, found_in, get, insert, inside, is_database_name, is_document_id, is_named, is_security, known_values, length, sequence_of_database, map, new_database, option_map, pos, refl, remove, rows_with_security, slice_get, subst, sym, with_all, with_cells, with_local, with_security, writings_in, ℕ, ℤ, ◌+◌, ◌∙◌, ◌≡◌}
 use Rattle.couch_json.specs.Value.{Value}
 use Rattle.std.proofs.lemmas.Bool.{false_from_ne_true}
 use Rattle.std.proofs.lemmas.Slice.Eq.{bytes_eq-Decides}
@@ -31,6 +31,11 @@ use Rattle.transactions.proofs.Committing.{length-writings_in}
 use Rattle.transactions.proofs.IndexRests.{database_indexed, replaced_indexed}
 use Rattle.transactions.proofs.IndexSteps.{same_tables, store_still}
 use Rattle.transactions.specs.Indexing.{IsIndexedStore, IsRemoved as Removes}
+use Rattle.store.specs.Database as store
+use Rattle.store.specs.Lawful.{AllEndAtLast, EndsAtLast, IsLocalDocument}
+use Rattle.store.proofs.Lasts.{ends_by_all, ends_empty, ends_local, ends_secured}
+use Rattle.store.proofs.Lawfuls.{all_change, all_insert, all_remove}
+use Rattle.sqlstore.proofs.Standing.{Follows}
 
 -- the last row is left out
 without_last : (p : Row → Bool) (rows : List Row) (r : Row) → p r ≡ false → filter p (rows ++ r ∷ []) ≡ filter p rows
@@ -59,48 +64,55 @@ module _ (new : Database) (name : List ℕ) where
   IsWritten all old = option_map (λ db. insert (contents_in old.trees) name (with_all db (writings_in db all))) (get (contents_in old.trees) name) ≡ Some (contents_in new.trees)
 
   module _ (old : Database) (last : Trees) (was : IsIndexedStore old) (same : old.trees ≡ last) where
+    -- a change of the database that keeps the end of each
+    changed : (change : store.Database → store.Database) → ((db : store.Database) → EndsAtLast db → EndsAtLast (change db))
+        → option_map (λ db. insert (contents_in old.trees) name (change db)) (get (contents_in old.trees) name) ≡ Some (contents_in new.trees) → AllEndAtLast (contents_in old.trees) → AllEndAtLast (contents_in new.trees)
+    changed change keeps is = all_change EndsAtLast (contents_in old.trees) (contents_in new.trees) name (get (contents_in old.trees) name) change refl is (λ db at. keeps db)
+
     pub adds : (given text : List ℕ) → IsTrue (is_database_name name) → get (contents_in last) name ≡ None → given ≡ name → text ≡ canonical closed_security
-        → Changes dbs_tree (with_cells (old.trees dbs_tree) (database_cells given text (pos 0))) old new → IsIndexedStore new × IsAdded old
+        → Changes dbs_tree (with_cells (old.trees dbs_tree) (database_cells given text (pos 0))) old new → Follows old new × IsAdded old
     adds given text lawful none named spelled change =
         let free = ap (λ trees. get (contents_in trees) name) same ∙ none in
         let row = subst (λ t. Changes dbs_tree (with_cells (old.trees dbs_tree) (database_cells name t (pos 0))) old new) spelled
         (subst (λ n. Changes dbs_tree (with_cells (old.trees dbs_tree) (database_cells n text (pos 0))) old new) named change) in
         let made = new_store old new name was.store lawful free row in
-        (record { store = made.0; indexed = database_indexed _ old new was.store.schema_is row was.indexed }, made.1)
+        (record { rows = record { store = made.0; indexed = database_indexed _ old new was.store.schema_is row was.indexed }; ends = λ ends. subst AllEndAtLast (sym made.1) (all_insert EndsAtLast (contents_in old.trees) name new_database ends (ends_empty closed_security)) }, made.1)
 
     module _ (number : ℤ) (has : HasNumber last name number) where
       there : HasNumber old.trees name number
       there = subst (λ trees. HasNumber trees name number) (sym same) has
 
       pub secures : (v : Value) (text : List ℕ) → IsTrue (is_security v) → IsLawful v → text ≡ canonical v → Changes dbs_tree (rows_with_security number text (old.trees dbs_tree)) old new
-          → IsIndexedStore new × IsSecured v old
+          → Follows old new × IsSecured v old
       secures v text security lawful spelled change =
           let row = subst (λ k. Changes dbs_tree (rows_with_security k (canonical v) (old.trees dbs_tree)) old new) (sym there.numbered)
           (subst (λ t. Changes dbs_tree (rows_with_security number t (old.trees dbs_tree)) old new) spelled change) in
           let made = secured_store old new name there.row v was.store there.first security lawful row in
-          (record { store = made.0; indexed = database_indexed _ old new was.store.schema_is row was.indexed }, made.1)
+          (record { rows = record { store = made.0; indexed = database_indexed _ old new was.store.schema_is row was.indexed }; ends = changed (λ db. with_security db v) (λ db. ends_secured db v) made.1 }, made.1)
 
-      pub clears : Removes number old new → IsIndexedStore new × IsRemoved old
+      pub clears : Removes number old new → Follows old new × IsRemoved old
       clears change =
           let c = subst (λ n. Clears n old change.cleared) (sym there.numbered) change.clears in
           let made = removed_store old c.undocumented c.unwritten c.bare change.cleared name there.row was.store there.first c.documents c.revisions c.locals c.row in
           let same = same_tables change.cleared new made.0.schema_is change.only in
-          (record { store = store_still change.cleared new made.0 change.only; indexed = change.indexed }, contents_same change.cleared.trees new.trees same ∙ made.1)
+          let removed = contents_same change.cleared.trees new.trees same ∙ made.1 in
+          (record { rows = record { store = store_still change.cleared new made.0 change.only; indexed = change.indexed }; ends = λ ends. subst AllEndAtLast (sym removed) (all_remove EndsAtLast (contents_in old.trees) name ends) }, removed)
 
-      pub puts : (id given text : List ℕ) (document : LocalDocument) → IsTrue (is_document_id id) → IsBody document.body → IsLawful document.body → document.number < 2 ^ 32 → given ≡ id → text ≡ canonical document.body
-          → Replaces number given document.number text old new → IsIndexedStore new × HasLocal id document old
-      puts id given text document named body lawful small same_id spelled change =
+      pub puts : (id given text : List ℕ) (document : LocalDocument) → IsTrue (is_document_id id) → IsLocalDocument id document → IsLawful document.body → given ≡ id → text ≡ canonical document.body
+          → Replaces number given document.number text old new → Follows old new × HasLocal id document old
+      puts id given text document named local lawful same_id spelled change =
           let c = subst (λ k. Replaces k id document.number (canonical document.body) old new) (sym there.numbered)
           (subst (λ x. Replaces number x document.number (canonical document.body) old new) same_id (subst (λ x. Replaces number given document.number x old new) spelled change)) in
-          let made = written_store old c.mid new name there.row id document was.store there.first named body lawful small c.out c.put in
-          (record { store = made.0; indexed = replaced_indexed _ _ _ _ old new was.store.schema_is c was.indexed }, made.1)
+          let made = written_store old c.mid new name there.row id document was.store there.first named local lawful c.out c.put in
+          (record { rows = record { store = made.0; indexed = replaced_indexed _ _ _ _ old new was.store.schema_is c was.indexed }; ends = changed (λ db. with_local db id document) (λ db. ends_local db id document) made.1 }, made.1)
 
     pub appends : {X : Type 0} (all : List Addition) (number : ℤ) (sequence : ℕ) → AreDue all name number sequence last
-        → ((due : AreDue all name number sequence old.trees) → HasWritten (writings_in (database_of_row old.trees due.row) all) name due.row old new × IsIndexed new.trees × X) → IsIndexedStore new × IsWritten all old
+        → ((due : AreDue all name number sequence old.trees) → HasWritten (writings_in (database_of_row old.trees due.row) all) name due.row old new × IsIndexed new.trees × X) → Follows old new × IsWritten all old
     appends all number sequence due writes =
         let here = subst (AreDue all name number sequence) (sym same) due in
         let w = (writes here).0 in
-        (record { store = w.store; indexed = (writes here).1 }, ap (option_map (λ db. insert (contents_in old.trees) name (with_all db (writings_in db all)))) (database_there old.trees was.store.laid name here.row here.first) ∙ ap Some (sym w.contents))
+        let written = ap (option_map (λ db. insert (contents_in old.trees) name (with_all db (writings_in db all)))) (database_there old.trees was.store.laid name here.row here.first) ∙ ap Some (sym w.contents) in
+        (record { rows = record { store = w.store; indexed = (writes here).1 }; ends = changed (λ db. with_all db (writings_in db all)) (λ db. ends_by_all (writings_in db all) db) written }, written)
 
     -- ---- what is known of the others
 
@@ -121,7 +133,7 @@ module _ (new : Database) (name : List ℕ) where
           → Changes dbs_tree (with_cells (old.trees dbs_tree) (database_cells given text (pos 0))) old new → AreKnown new.trees ks
       adds_beside given text lawful none named spelled change =
           let made = adds given text lawful none named spelled change in
-          keep made.0
+          keep made.0.rows
           (λ other out.
           ap (filter (is_named other)) change.rows
           ∙ without_last (is_named other) (old.trees dbs_tree) _ (false_from_ne_true (bytes_eq given other) (λ here. out (sym ((bytes_eq-Decides given other).0 here) ∙ named))))
@@ -138,8 +150,8 @@ module _ (new : Database) (name : List ℕ) where
             let by = row_with_security text in
             let changed : new.trees dbs_tree ≡ rows_with_security (number_of d) text (old.trees dbs_tree) = change.rows ∙ ap (λ n. rows_with_security n text (old.trees dbs_tree)) (sym own.numbered) in
             let secured = mapped_some (λ db. insert (contents_in old.trees) name (with_security db v)) (get (contents_in old.trees) name) (contents_in new.trees) made.1 in
-            keep made.0
-            (kept_rows number d (by d) made.0 own.first (ap (λ rows. slice_get (filter (is_named name) rows) 0) changed ∙ named_changed old.trees was.store.laid name d own.first by (λ r. refl) (λ r. refl)) own.numbered own.numbered
+            keep made.0.rows
+            (kept_rows number d (by d) made.0.rows own.first (ap (λ rows. slice_get (filter (is_named name) rows) 0) changed ∙ named_changed old.trees was.store.laid name d own.first by (λ r. refl) (λ r. refl)) own.numbered own.numbered
             (ap (filter (λ r. not (has_number number r))) change.rows ∙ changed_others number by (λ r. refl) (old.trees dbs_tree)))
             (λ other out. ap (λ m. get m other) (sym secured.2) ∙ inserted_other (contents_in old.trees) name other (with_security secured.0 v) out)
 
@@ -158,7 +170,7 @@ module _ (new : Database) (name : List ℕ) where
             (same_tables change.cleared new (c.row.schema ∙ has_d) change.only).dbs ∙ c.row.rows ∙ ap (filter (λ r. not (has_number number r))) bare in
             let all : AllByRecursion (λ r. is_named name r ≡ has_number number r) (old.trees dbs_tree) =
             subst (λ n. AllByRecursion (λ r. is_named name r ≡ has_number n r) (old.trees dbs_tree)) own.numbered (by_number old.trees was.store.laid name d own.first) in
-            keep made.0
+            keep made.0.rows
             (λ other out.
             other_rows number name other (old.trees dbs_tree) (new.trees dbs_tree) out all
             (subst (AllByRecursion (λ r. is_named name r ≡ has_number number r)) (sym rows) (all-filter (λ r. is_named name r ≡ has_number number r) (λ r. not (has_number number r)) (old.trees dbs_tree) all))

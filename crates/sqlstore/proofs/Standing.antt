@@ -1,8 +1,9 @@
 -- What calls of a store leave, one after the other.
-use Rattle.sqlstore.proofs.Common.{Asks, Database, Err, Error, Finds, Ghosts, HasCleanDisk, Held, Holds, IfErr, IfOk, IsHeld, IsStanding, IsStore, IsTrue, KnownDatabase, List, None, Ok, OnlyLooks, Option, Reads, Result, Row, SqlStore, StoreFault, Trees, Trees-set, WasStore, ap, inl, inr, rows_set, schema, state, subst, sym, ∥∥₁_elim, ∥∥₁_map, ◌∙◌, ◌≡◌, ◌≤◌, ◌⊎◌}
+use Rattle.sqlstore.proofs.Common.{Asks, Database, Err, Error, Finds, Ghosts, HasCleanDisk, Held, Holds, IfErr, IfOk, IsHeld, IsStanding, IsStore, IsTrue, KnownDatabase, List, None, Ok, OnlyLooks, Option, Reads, Result, Row, SqlStore, StoreFault, Trees, Trees-set, WasStore, ap, contents_in, inl, inr, rows_set, schema, state, subst, sym, ∥∥₁_elim, ∥∥₁_map, ◌∙◌, ◌≡◌, ◌≤◌, ◌⊎◌}
 use Rattle.index.specs.Layout.{HasIndexRows}
 use Rattle.transactions.proofs.IndexSteps.{rows_of}
-use Rattle.transactions.specs.Indexing.{IsIndexedStore}
+use Rattle.store.specs.Lawful.{AllEndAtLast}
+use Rattle.transactions.specs.Indexing.{IsCommittedStore, IsIndexedStore}
 use Rattle.sqlstore.specs.inner.Causes.{IsJudged}
 use Rattle.sqlstore.proofs.Common.{IsKnown, ∥∥₁_prop}
 use Rattle.sqlstore.specs.Standing.{AreKnown}
@@ -10,6 +11,15 @@ use Rattle.sqlstore.specs.Standing.{AreKnown}
 -- the tables as the last change left them, with the rows of indexes
 pub indexed_store : {S : Type 0} {g : Ghosts S} {conn last : Held S} → Holds g conn last → IsIndexedStore (state g last).now
 indexed_store h = record { store = h.store; indexed = h.indexed }
+
+-- and they are those of a store between two calls
+pub committed_store : {S : Type 0} {g : Ghosts S} {conn last : Held S} → Holds g conn last → IsCommittedStore (state g last).now
+committed_store h = record { rows = indexed_store h; ends = h.ends }
+
+-- what a change makes of a store: one whose databases end at their last documents, where those before did
+pub record Follows (old new : Database) : Type 0 where
+  pub rows : IsIndexedStore new
+  pub ends : AllEndAtLast (contents_in old.trees) → AllEndAtLast (contents_in new.trees)
 
 module _ {S : Type 0} (g : Ghosts S) (old new origin last : Held S) where
   -- the rows are as they were, whichever way a query ended
@@ -25,6 +35,7 @@ module _ {S : Type 0} (g : Ghosts S) (old new origin last : Held S) where
   holds_on asks looks clean h = record {
     store = h.store;
     indexed = h.indexed;
+    ends = h.ends;
     now = λ up. let was = asks.was_open clean up in same_rows h was ((looks (same_schema h was)).rows clean up);
     committed = λ up. let was = asks.was_open clean up in ((looks (same_schema h was)).kept clean).committed up ∙ h.committed was;
   }

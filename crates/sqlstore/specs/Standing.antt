@@ -7,10 +7,11 @@ use Rattle.sqlite.specs.Held.{Held, state}
 use Rattle.sqlite.specs.State.{HasCleanDisk}
 use Rattle.sqlite_trees.specs.Tree.{Trees}
 use Rattle.tables.specs.Layout.{IsStore}
-use Rattle.tables.specs.Rows.{is_named}
+use Rattle.store.specs.Lawful.{AllEndAtLast}
+use Rattle.tables.specs.Rows.{contents_in, is_named}
 use Rattle.tables.specs.Schema.{dbs_tree}
 use Rattle.index.specs.Indexed.{IsIndexed}
-use Rattle.transactions.specs.Indexing.{AreKnownIndexes, IsIndexedStore}
+use Rattle.transactions.specs.Indexing.{AreKnownIndexes, IsCommittedStore}
 use Rattle.ranks.specs.Counts.{AreRanksOf}
 use Rattle.sqlstore.specs.inner.Listing.{all_count, live_ids}
 use Rattle.sqlstore.specs.inner.Designs.{AreKnownDesigns}
@@ -39,17 +40,18 @@ abbrev pub AreKnown : Trees → List KnownDatabase → Type 0
 AreKnown trees ks = AllByRecursion (λ k. IsKnownDatabase trees k × (k.indexes ≡ None) × (k.index_ranks ≡ None) × (k.designs ≡ None)) ks
 
 module _ {S : Type 0} (g : Ghosts S) where
-  -- The tables are laid out as the last change left them, and the rows of indexes are those of what is stored. An open connection has
-  -- those rows, with nothing that waits for a commit.
+  -- The tables are laid out as the last change left them, the rows of indexes are those of what is stored, and the sequence of each
+  -- database is that of its last document. An open connection has those rows, with nothing that waits for a commit.
   pub record Holds (conn last : Held S) : Type 0 where
     pub store : IsStore (state g last).now
     pub indexed : IsIndexed (state g last).now.trees
+    pub ends : ∥ AllEndAtLast (contents_in (state g last).now.trees) ∥₁
     pub now : IsTrue (state g conn).is_open → (state g conn).now ≡ (state g last).now
     pub committed : IsTrue (state g conn).is_open → (state g conn).committed ≡ (state g last).now
 
-  -- the tables were laid out, and the rows of indexes were those of what was stored, when the store was opened
+  -- the tables were those of a store between two calls when it was opened
   abbrev pub WasStore : Held S → Type 0
-  WasStore origin = ∥ IsIndexedStore (state g origin).now ∥₁
+  WasStore origin = ∥ IsCommittedStore (state g origin).now ∥₁
 
   -- where the connection is honest, it is so
   abbrev pub IsHeld : Held S → Held S → Held S → Type 0

@@ -164,4 +164,6 @@ impl Store for MemoryStore {
     }
 
     ghost lawful = { λ s honest. ∥∥₁_elim (s.store.standing.held honest.0 honest.1) ∥∥₁_prop (λ h. h.store.laid.lawful) };
+
+    ghost ends = { λ s honest. ∥∥₁_elim (s.store.standing.held honest.0 honest.1) ∥∥₁_prop (λ h. h.ends) };
 }

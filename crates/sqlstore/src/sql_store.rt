@@ -89,7 +89,7 @@ impl<S: Alter + Drop> SqlStore<S> {
     ghost use Rattle.tables.specs.Rows.{contents_in};
     ghost use Rattle.tables.specs.Schema.{meta_tree, no_schema, schema};
     ghost use Rattle.tables.specs.declared.meta.FileVersion.{FileVersion};
-    ghost use Rattle.transactions.specs.Indexing.{IsIndexedStore};
+    ghost use Rattle.transactions.specs.Indexing.{IsCommittedStore};
     ghost use Rattle.sqlstore.specs.Model.{contents_of, fault_count, is_clean, is_honest};
     ghost use Rattle.sqlstore.specs.Opening.{FailsToRead, IsForeign, version_of};
 
@@ -104,7 +104,7 @@ impl<S: Alter + Drop> SqlStore<S> {
     ) -> Result<SqlStore<S>, (OpenFault, Connection<S>)>
         // Where there was a store, with the rows of its indexes, it is opened as it was; and where there was nothing it has no database.
         ensures found { IfOk result
-            (λ s. is_clean S.Store s → IsIndexedStore (state S.Store conn).now → is_honest S.Store s
+            (λ s. is_clean S.Store s → IsCommittedStore (state S.Store conn).now → is_honest S.Store s
             × (contents_of S.Store s ≡ contents_in (state S.Store conn).now.trees)) }
         // One of the first version is opened with what it held, and with the rows of its indexes made anew.
         ensures carried { IfOk result
@@ -170,12 +170,13 @@ impl<S: Alter + Drop> SqlStore<S> {
     }
 
     /// Closes the store, and gives back its connection, which is in no transaction and has the rows that
-    /// hold the contents, laid out as a store's; the rows of its indexes are those of what it holds.
+    /// hold the contents, laid out as a store's; the rows of its indexes are those of what it holds, and
+    /// the sequence of each database is that of its last document.
     pub fn close(self) -> Connection<S>
         ensures idle { result.in_transaction ≡ false }
         ensures contents { is_honest S.Store self → IsTrue (state S.Store result).is_open
             → contents_in (state S.Store result).now.trees ≡ contents_of S.Store self }
-        ensures laid { is_honest S.Store self → IsTrue (state S.Store result).is_open → ∥ IsIndexedStore (state S.Store result).now ∥₁ }
+        ensures laid { is_honest S.Store self → IsTrue (state S.Store result).is_open → ∥ IsCommittedStore (state S.Store result).now ∥₁ }
         ensures clean { HasCleanDisk (state S.Store result) → is_clean S.Store self }
     {
         let SqlStore {
@@ -204,7 +205,7 @@ impl<S: Alter + Drop> SqlStore<S> {
         ensures ours { is_honest S.Store self
             → IfErr result (λ e. HasCleanDisk (state S.Store e.1) → IsTrue (state S.Store e.1).is_open → e.0 ≢ OpenFault.NotOurs) }
         ensures refused { is_honest S.Store self → IfErr result (λ e. HasCleanDisk (state S.Store e.1) → IsTrue (state S.Store e.1).is_open
-            → ∥ IsIndexedStore (state S.Store e.1).now ∥₁ × (contents_in (state S.Store e.1).now.trees ≡ contents_of S.Store self)) }
+            → ∥ IsCommittedStore (state S.Store e.1).now ∥₁ × (contents_in (state S.Store e.1).now.trees ≡ contents_of S.Store self)) }
     {
         let alloc = self.alloc;
         SqlStore::open(alloc, self.close())

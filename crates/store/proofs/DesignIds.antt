@@ -6,7 +6,7 @@ use Rattle.std.specs.Cmp.{first_so, second_so}
 use Rattle.tree.specs.DocumentId.{is_design_id}
 use Rattle.store.specs.Pages.{is_after_end_of, is_before_start_of}
 
-behind : (prefix text : List ℕ) → starts_with nat_eq text prefix ≡ true → (rest : List ℕ) × (text ≡ prefix ++ rest)
+pub behind : (prefix text : List ℕ) → starts_with nat_eq text prefix ≡ true → (rest : List ℕ) × (text ≡ prefix ++ rest)
 behind [] text h = (text, refl)
 behind (p ∷ prefix) [] h = cc
 behind (p ∷ prefix) (t ∷ text) h =

@@ -4,10 +4,13 @@ use Rattle.std.specs.Prelude.{IsTrue, is_some, MatchOption}
 use Rattle.std.specs.List.{AllByRecursion}
 use Rattle.std.proofs.Math.Logic.{∥∥₁_map}
 use Rattle.std.proofs.lemmas.Cmp.{nat_list_cmp_total}
+use Rattle.std.proofs.lemmas.Slice.Eq.{bytes_eq-Decides}
+use Rattle.std.proofs.lemmas.Map.Text.{is_eq-slice_cmp}
 use Rattle.std.specs.Cmp.Lexicographic.{slice_cmp}
 use Rattle.std.specs.Ordering.{eq_by_cmp}
 use Rattle.std.specs.FinMap as map
 use Rattle.couch_json.specs.Value.{Value}
+use Rattle.tree.specs.DocumentId.{is_local_id}
 use Rattle.tree.specs.Revision.{Revision}
 use Rattle.tree.specs.Write.{Write, AreLawfulWrites as AreWritten, StandsIn, IsBehind, IsKnown, IsParent, IsBrought, AreWhole, head, counts_down, is_whole_path}
 use Rattle.tree.specs.History.{HistoryContent, content_of, with_write, placement, IsBetter, is_leaf, parent_of, winner, held_of}
@@ -20,8 +23,8 @@ use Rattle.tree.proofs.Leaves.{leaf_is_childless, leaf_is_held, winner_is_best}
 use Rattle.tree.proofs.Shown.{behind_below, inside, is_known_writes, parent_below, shown, stands_behind, whole_counts}
 use Rattle.store.specs.Database.{Database, Document, DocumentWrite, history_at, history_in, with_one, with_all, empty_database}
 use Rattle.store.specs.declared.local_document.LocalDocument.{LocalDocument}
-use Rattle.store.specs.Contents.{Contents, IsAcceptable, AreAcceptable, IfThere, with_local, with_security}
-use Rattle.store.specs.Lawful.{IsBody, IsWritten, IsLawfulDatabase, AreLawful}
+use Rattle.store.specs.Contents.{AllAre, Contents, IsAcceptable, AreAcceptable, IfThere, with_local, with_security}
+use Rattle.store.specs.Lawful.{IsBody, IsWritten, IsLawfulDatabase, IsLocalDocument, AreLawful}
 use Rattle.store.specs.Writing.{Addition, writings_in}
 use Rattle.store.proofs.Contents.{document_after}
 use Rattle.store.proofs.Laters.{sequences_by_one}
@@ -61,12 +64,18 @@ at_key : (b : Bool) (n : ℕ) (h : HistoryContent) (o : Option Document) (d : Do
 at_key true n h o d new old is = subst (λ (x : Document). IsWritten x.history) (inside _ d is) new
 at_key false n h o d new old is = old d is
 
+apart_at : (b : Bool) (id other : List ℕ) (o : Option Document) (new d : Document) → bytes_eq id other ≡ b → is_local_id other ≡ false → (o ≡ Some d → is_local_id id ≡ false)
+    → cond b (Some new) o ≡ Some d → is_local_id id ≡ false
+apart_at true id other o new d same apart old is = ap is_local_id ((bytes_eq-Decides id other).0 same) ∙ apart
+apart_at false id other o new d same apart old is = old is
+
 pub lawful_by_one : (db : Database) (w : DocumentWrite) → IsLawfulDatabase db → IsAcceptable db w → IsLawfulDatabase (with_one db w)
 lawful_by_one db w h ok =
-    let body : IsBody w.write.body = record { object = ok.body; shallow = ok.shallow } in
+    let body : IsBody w.write.body = record { object = ok.body; shallow = ok.shallow; plain = ok.plain } in
     let new = written_in (map.get db.documents w.id) w.write (h.documents w.id) ok.placed body in
     record {
       documents = λ id d is. at_key (bytes_eq id w.id) (db.length + 1) (with_write (history_at db w.id) w.write) (map.get db.documents id) d new (h.documents id) (sym (document_after db w id) ∙ is);
+      apart = λ id d is. apart_at (bytes_eq id w.id) id w.id (map.get db.documents id) _ d refl ok.apart (h.apart id d) (sym (document_after db w id) ∙ is);
       sequences = sequences_by_one db w h.sequences;
       locals = h.locals;
     }
@@ -79,6 +88,7 @@ pub lawful_empty : (security : Value) → IsLawfulDatabase (empty_database secur
 lawful_empty security =
     record {
       documents = λ id d is. absurd (none id d is);
+      apart = λ id d is. absurd (none id d is);
       sequences = record { positive = λ id d is. absurd (none id d is); within = λ id d is. absurd (none id d is); distinct = λ id other d e is was same. absurd (none id d is) };
       locals = λ id d is. let none = sym (map.get-empty {X = LocalDocument} (slice_cmp nat_cmp) id) ∙ is in absurd (cc);
     }
@@ -88,19 +98,22 @@ lawful_empty security =
 
 pub lawful_secured : (db : Database) (security : Value) → IsLawfulDatabase db → IsLawfulDatabase (with_security db security)
 lawful_secured db security h =
-    record { documents = h.documents; sequences = record { positive = h.sequences.positive; within = h.sequences.within; distinct = h.sequences.distinct }; locals = h.locals }
+    record { documents = h.documents; apart = h.apart; sequences = record { positive = h.sequences.positive; within = h.sequences.within; distinct = h.sequences.distinct }; locals = h.locals }
 
-local_key : (b : Bool) (new : LocalDocument) (old : Option LocalDocument) (d : LocalDocument) → IsBody new.body → (old ≡ Some d → IsBody d.body) → cond b (Some new) old ≡ Some d → IsBody d.body
-local_key true new old d n o is = subst (λ (x : LocalDocument). IsBody x.body) (inside new d is) n
-local_key false new old d n o is = o is
+local_key : (b : Bool) (id other : List ℕ) (new : LocalDocument) (old : Option LocalDocument) (d : LocalDocument) → (b ≡ true → other ≡ id) → IsLocalDocument id new
+    → (old ≡ Some d → IsLocalDocument other d) → cond b (Some new) old ≡ Some d → IsLocalDocument other d
+local_key true id other new old d same n o is = subst (λ (x : LocalDocument). IsLocalDocument other x) (inside new d is) (subst (λ (k : List ℕ). IsLocalDocument k new) (sym (same refl)) n)
+local_key false id other new old d same n o is = o is
 
-pub lawful_local : (db : Database) (id : List ℕ) (document : LocalDocument) → IsLawfulDatabase db → IsBody document.body → IsLawfulDatabase (with_local db id document)
-lawful_local db id document h body =
+pub lawful_local : (db : Database) (id : List ℕ) (document : LocalDocument) → IsLawfulDatabase db → IsLocalDocument id document → IsLawfulDatabase (with_local db id document)
+lawful_local db id document h ok =
     record {
       documents = h.documents;
+      apart = h.apart;
       sequences = record { positive = h.sequences.positive; within = h.sequences.within; distinct = h.sequences.distinct };
       locals = λ other d is.
-          local_key (eq_by_cmp (slice_cmp nat_cmp) other id) document (map.get db.locals other) d body (h.locals other d) (sym (map.get-insert nat_list_cmp_total db.locals id document other) ∙ is);
+          local_key (eq_by_cmp (slice_cmp nat_cmp) other id) id other document (map.get db.locals other) d (λ t. (bytes_eq-Decides other id).0 (sym (is_eq-slice_cmp other id) ∙ t)) ok (h.locals other d)
+          (sym (map.get-insert nat_list_cmp_total db.locals id document other) ∙ is);
     }
 
 -- the lawful writes that stand behind the history of an id, none where it was never written
@@ -193,44 +206,53 @@ held_body h r d k is =
 
 -- ---- the contents of a store
 
-pub lawful_none : AreLawful map.empty
-lawful_none name db is = let none = sym (map.get-empty {X = Database} (slice_cmp nat_cmp) name) ∙ is in absurd (cc)
+-- what holds of each database of a store, and still does where one is added, removed or changed
+pub all_none : (P : Database → Type 0) → AllAre P map.empty
+all_none P name db is = let none = sym (map.get-empty {X = Database} (slice_cmp nat_cmp) name) ∙ is in absurd (cc)
 
-inserted_at : (b : Bool) (old : Option Database) (new db : Database) → IsLawfulDatabase new → (old ≡ Some db → IsLawfulDatabase db) → cond b (Some new) old ≡ Some db → IsLawfulDatabase db
-inserted_at true old new db n o is = subst IsLawfulDatabase (inside new db is) n
-inserted_at false old new db n o is = o is
+inserted_at : (P : Database → Type 0) (b : Bool) (old : Option Database) (new db : Database) → P new → (old ≡ Some db → P db) → cond b (Some new) old ≡ Some db → P db
+inserted_at P true old new db n o is = subst P (inside new db is) n
+inserted_at P false old new db n o is = o is
+
+pub all_insert : (P : Database → Type 0) (c : Contents) (name : List ℕ) (new : Database) → AllAre P c → P new → AllAre P (map.insert c name new)
+all_insert P c name new h n other db is =
+    inserted_at P (eq_by_cmp (slice_cmp nat_cmp) other name) (map.get c other) new db n (h other db) (sym (map.get-insert nat_list_cmp_total c name new other) ∙ is)
+
+removed_at : (P : Database → Type 0) (b : Bool) (old : Option Database) (db : Database) → (old ≡ Some db → P db) → cond b None old ≡ Some db → P db
+removed_at P true old db o is = cc
+removed_at P false old db o is = o is
+
+pub all_remove : (P : Database → Type 0) (c : Contents) (name : List ℕ) → AllAre P c → AllAre P (map.remove c name)
+all_remove P c name h other db is =
+    removed_at P (eq_by_cmp (slice_cmp nat_cmp) other name) (map.get c other) db (h other db) (sym (map.get-remove nat_list_cmp_total c name other) ∙ is)
+
+pub all_change : (P : Database → Type 0) (c d : Contents) (name : List ℕ) (o : Option Database) (change : Database → Database) → o ≡ map.get c name
+    → option_map (λ db. map.insert c name (change db)) o ≡ Some d → ((db : Database) → o ≡ Some db → P db → P (change db)) → AllAre P c → AllAre P d
+all_change P c d name None change at is keeps h = cc
+all_change P c d name (Some db) change at is keeps h = subst (AllAre P) (inside _ d is) (all_insert P c name (change db) h (keeps db refl (h name db (sym at))))
+
+pub lawful_none : AreLawful map.empty
+lawful_none = all_none IsLawfulDatabase
 
 pub lawful_insert : (c : Contents) (name : List ℕ) (new : Database) → AreLawful c → IsLawfulDatabase new → AreLawful (map.insert c name new)
-lawful_insert c name new h n other db is =
-    inserted_at (eq_by_cmp (slice_cmp nat_cmp) other name) (map.get c other) new db n (h other db) (sym (map.get-insert nat_list_cmp_total c name new other) ∙ is)
-
-removed_at : (b : Bool) (old : Option Database) (db : Database) → (old ≡ Some db → IsLawfulDatabase db) → cond b None old ≡ Some db → IsLawfulDatabase db
-removed_at true old db o is = cc
-removed_at false old db o is = o is
+lawful_insert = all_insert IsLawfulDatabase
 
 pub lawful_remove : (c : Contents) (name : List ℕ) → AreLawful c → AreLawful (map.remove c name)
-lawful_remove c name h other db is =
-    removed_at (eq_by_cmp (slice_cmp nat_cmp) other name) (map.get c other) db (h other db) (sym (map.get-remove nat_list_cmp_total c name other) ∙ is)
-
--- one database is changed, in a way that keeps it lawful
-pub lawful_change : (c d : Contents) (name : List ℕ) (o : Option Database) (change : Database → Database) → o ≡ map.get c name → option_map (λ db. map.insert c name (change db)) o ≡ Some d
-    → ((db : Database) → o ≡ Some db → IsLawfulDatabase db → IsLawfulDatabase (change db)) → AreLawful c → AreLawful d
-lawful_change c d name None change at is keeps h = cc
-lawful_change c d name (Some db) change at is keeps h = subst AreLawful (inside _ d is) (lawful_insert c name (change db) h (keeps db refl (h name db (sym at))))
+lawful_remove = all_remove IsLawfulDatabase
 
 pub lawful_commit : (c d : Contents) (name : List ℕ) (all : List Addition) → IfThere (map.get c name) (λ db. AreAcceptable db (writings_in db all))
     → option_map (λ db. map.insert c name (with_all db (writings_in db all))) (map.get c name) ≡ Some d → AreLawful c → AreLawful d
 lawful_commit c d name all ok is h =
-    lawful_change c d name (map.get c name) (λ db. with_all db (writings_in db all)) refl is
+    all_change IsLawfulDatabase c d name (map.get c name) (λ db. with_all db (writings_in db all)) refl is
     (λ db at l. lawful_by_all (writings_in db all) db l (subst (λ (o : Option Database). IfThere o (λ e. AreAcceptable e (writings_in e all))) at ok)) h
 
-pub lawful_write_local : (c d : Contents) (name id : List ℕ) (document : LocalDocument) → IfThere (map.get c name) (λ db. IsBody document.body)
+pub lawful_write_local : (c d : Contents) (name id : List ℕ) (document : LocalDocument) → IfThere (map.get c name) (λ db. IsLocalDocument id document)
     → option_map (λ db. map.insert c name (with_local db id document)) (map.get c name) ≡ Some d → AreLawful c → AreLawful d
 lawful_write_local c d name id document ok is h =
-    lawful_change c d name (map.get c name) (λ db. with_local db id document) refl is
-    (λ db at l. lawful_local db id document l (subst (λ (o : Option Database). IfThere o (λ e. IsBody document.body)) at ok)) h
+    all_change IsLawfulDatabase c d name (map.get c name) (λ db. with_local db id document) refl is
+    (λ db at l. lawful_local db id document l (subst (λ (o : Option Database). IfThere o (λ e. IsLocalDocument id document)) at ok)) h
 
--- a call that changes lawful contents lawfully, or leaves them, leaves them lawful
-pub lawful_after : {T E : Type 0} (r : Result T E) (c d : Contents) (Made : Type 0) → OnOk r Made → OnErr r (d ≡ c) → (Made → AreLawful c → AreLawful d) → ∥ AreLawful c ∥₁ → ∥ AreLawful d ∥₁
-lawful_after (Ok v) c d Made made same keeps h = ∥∥₁_map h (keeps made)
-lawful_after (Err e) c d Made made same keeps h = subst (λ (x : Contents). ∥ AreLawful x ∥₁) (sym same) h
+-- a call that keeps what holds of contents where it changes them, or leaves them
+pub all_after : {T E : Type 0} (P : Database → Type 0) (r : Result T E) (c d : Contents) (Made : Type 0) → OnOk r Made → OnErr r (d ≡ c) → (Made → AllAre P c → AllAre P d) → ∥ AllAre P c ∥₁ → ∥ AllAre P d ∥₁
+all_after P (Ok v) c d Made made same keeps h = ∥∥₁_map h (keeps made)
+all_after P (Err e) c d Made made same keeps h = subst (λ (x : Contents). ∥ AllAre P x ∥₁) (sym same) h

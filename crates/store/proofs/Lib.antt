@@ -9,6 +9,7 @@ pub mod Among
 pub mod Rows
 pub mod PageStructs
 pub mod Lawfuls
+pub mod Lasts
 pub mod Bounds
 pub mod PageCuts
 pub mod Calls

@@ -18,3 +18,12 @@ IsCaused old new honest full Full = full
 IsCaused old new honest full Memory = ⊤
 IsCaused old new honest full NoDatabase = ⊤
 IsCaused old new honest full Exists = ⊤
+
+-- a commit to a database that is full answers so, but where memory was short or a failure was counted
+abbrev pub SaysFull : ℕ → ℕ → StoreFault → Type 0
+SaysFull old new Full = ⊤
+SaysFull old new Memory = ⊤
+SaysFull old new Failed = HasFailed old new
+SaysFull old new Damaged = ⊥
+SaysFull old new NoDatabase = ⊥
+SaysFull old new Exists = ⊥

@@ -1,13 +1,15 @@
 -- The contents of a store: its databases by name; what a change makes of one, and which writes a store may be given to accept.
 -- CouchDB manual, api/server/common (`/_all_dbs`), api/database and api/local; this project's own words for what a store is.
-use Rattle.std.specs.Prelude.{◌≡◌, ◌≤◌, ℕ, List, [], ◌∷◌, ◌++◌, codes, decimal, true, Option, Some, None, Ok, ⊤}
+use Rattle.std.specs.Prelude.{◌≡◌, ◌≤◌, ℕ, List, [], ◌∷◌, ◌++◌, codes, decimal, true, false, Option, Some, None, Ok, ⊤}
 use Rattle.std.specs.FinMap.{get, insert}
 use Rattle.couch_json.specs.Value.{Value, depth}
 use Rattle.couch_json.specs.Parts.{is_object}
 use Rattle.policy.specs.Security.{closed_security}
+use Rattle.tree.specs.DocumentId.{is_local_id}
 use Rattle.tree.specs.History.{placement}
 use Rattle.tree.specs.declared.placement.Placed.TheVariants.{Added}
 use Rattle.store.specs.Database.{TextMap, Database, DocumentWrite, history_at, with_one, empty_database}
+use Rattle.store.specs.SpecialMembers.{is_plain}
 use Rattle.store.specs.declared.local_document.LocalDocument.{LocalDocument}
 
 -- databases by their names
@@ -38,17 +40,23 @@ with_local db id document = record db { locals = insert db.locals id document }
 abbrev pub max_body_depth : ℕ
 max_body_depth = 100
 
--- the write may be appended: its path is whole, its head is not known yet, it gives no known revision another parent, and its
--- body is an object that is not nested too deep
+-- the write may be appended: its id is no local one, its path is whole, its head is not known yet, it gives no known revision another
+-- parent, and its body is an object that is not nested too deep and has no special members
 pub record IsAcceptable (db : Database) (w : DocumentWrite) : Type 0 where
+  pub apart : is_local_id w.id ≡ false
   pub placed : placement (history_at db w.id) w.write.path ≡ Ok Added
   pub body : is_object w.write.body ≡ true
   pub shallow : depth w.write.body ≤ max_body_depth
+  pub plain : is_plain w.write.body ≡ true
 
 -- each of them may, once those before it have been
 abbrev pub AreAcceptable : Database → List DocumentWrite → Type 0
 AreAcceptable db [] = ⊤
 AreAcceptable db (w ∷ ws) = IsAcceptable db w × AreAcceptable (with_one db w) ws
+
+-- a fact about each database
+abbrev pub AllAre : (Database → Type 0) → Contents → Type 0
+AllAre fact contents = (name : List ℕ) (db : Database) → get contents name ≡ Some db → fact db
 
 -- a fact about the database, where there is one
 abbrev pub IfThere : Option Database → (Database → Type 0) → Type 0

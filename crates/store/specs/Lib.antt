@@ -1,5 +1,6 @@
 pub mod DatabaseName
 pub mod Database
+pub mod SpecialMembers
 pub mod Contents
 pub mod Causes
 pub mod Pages

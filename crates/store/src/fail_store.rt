@@ -7,7 +7,7 @@ ghost use Rattle.store.specs.Database.{history_at, with_all};
 ghost use Rattle.store.specs.Failing.{TakesTurn, failing_call, failures_of, one_call_later};
 ghost use Rattle.store.specs.KeyPages.{page_of_keys};
 ghost use Rattle.store.specs.KeyPageStructs.{HasKeyCounts, key_page_in};
-ghost use Rattle.store.specs.Lawful.{IsBody};
+ghost use Rattle.store.specs.Lawful.{IsLocalDocument};
 ghost use Rattle.store.specs.Pages.{page_of_ids, page_by_sequence};
 ghost use Rattle.store.specs.PageStructs.{IsBounded, IsCounted, id_page_of, sequence_page_of};
 ghost use Rattle.store.specs.Writing.{additions, writings_in};
@@ -287,7 +287,7 @@ impl<S: Store + Drop> Store for FailStore<S> {
         id: &DocId,
         document: &LocalDocument,
     ) -> Result<(), StoreFault>
-        requires { S.is_honest self.old.store → IfThere (map.get (S.contents self.old.store) name.now) (λ _. IsBody document.now.body) }
+        requires { S.is_honest self.old.store → IfThere (map.get (S.contents self.old.store) name.now) (λ _. IsLocalDocument id.now document.now) }
         ensures ok { S.is_honest self.new.store
             → OnOk result (option_map (λ db. map.insert (S.contents self.old.store) name.now (with_local db id.now document.now))
             (map.get (S.contents self.old.store) name.now) ≡ Some (S.contents self.new.store)) }
@@ -311,4 +311,6 @@ impl<S: Store + Drop> Store for FailStore<S> {
     }
 
     ghost lawful = { λ s h. S.lawful s.store h };
+
+    ghost ends = { λ s h. S.ends s.store h };
 }

@@ -1,7 +1,7 @@
-ghost use Rattle.std.specs.Prelude.{◌≡◌, ◌≢◌, ◌⊎◌, ◌↔◌, Err, IfErr, OnOk, Some, None, option_map, true};
+ghost use Rattle.std.specs.Prelude.{◌≡◌, ◌≢◌, ◌⊎◌, ◌↔◌, Err, IfErr, OnOk, Some, None, is_some, option_map, true};
 ghost use Rattle.std.specs.FinMap as map;
 ghost use Rattle.store.specs.Calls.{ChangesWhole};
-ghost use Rattle.store.specs.Causes.{IsCaused};
+ghost use Rattle.store.specs.Causes.{IsCaused, SaysFull};
 ghost use Rattle.store.specs.Contents.{AreAcceptable, IfThere, IsThereWith};
 ghost use Rattle.store.specs.Database.{with_all};
 ghost use Rattle.store.specs.Writing.{additions, writings_in};
@@ -133,7 +133,9 @@ impl<S: Store + Drop> Store for FullStore<S> {
             → IsThereWith (map.get (S.contents self.old.store) name.now)
             (λ db. ⟦<FullStore<S> as Store>⟧.lacks_room self.old name.now (writings_in db (additions writes.now)))) fault) }
         ensures changes { ChangesWhole ⟦<FullStore<S> as Store>⟧ self.old self.new result }
-        ensures full { self.old.full ≡ name.now → OnOk result ⊥ }
+        ensures refused { self.old.full ≡ name.now → OnOk result ⊥ }
+        ensures full { self.old.full ≡ name.now → S.is_honest self.new.store → is_some (map.get (S.contents self.old.store) name.now) ≡ true
+            → IfErr result (SaysFull (S.fault_count self.old.store) (S.fault_count self.new.store)) }
         ensures same { self.new.full ≡ self.old.full }
     {
         if is_same(&self.full, name) {
@@ -161,4 +163,6 @@ impl<S: Store + Drop> Store for FullStore<S> {
     }
 
     ghost lawful = { λ s h. S.lawful s.store h };
+
+    ghost ends = { λ s h. S.ends s.store h };
 }

@@ -11,7 +11,7 @@ ghost use Rattle.store.specs.Database.{Database, Document, DocumentWrite, HasSeq
 ghost use Rattle.store.specs.Database.{empty_database, with_all, with_one, with_write_logged};
 ghost use Rattle.store.specs.Failing.{calls_later, failing_call, failures_of};
 ghost use Rattle.store.specs.Indexes.{IndexPlace, IsPlaceOf, index_rows, place_order, queried_document, winning_body};
-ghost use Rattle.store.specs.Lawful.{IsBody, IsLawfulDatabase};
+ghost use Rattle.store.specs.Lawful.{EndsAtLast, IsBody, IsLawfulDatabase, IsLocalDocument};
 ghost use Rattle.store.specs.Pages.{IsIdRowOf, IsRowOf, SequenceRow, comes_before, is_within, live_rev, page_of_ids, page_by_sequence, row_of};
 ghost use Rattle.store.specs.Winning.{winner_alone};
 ghost use Rattle.store.specs.Writing.{Addition, writings_in};
@@ -60,14 +60,23 @@ pub fn sequences()
 {}
 
 /// An empty database is lawful, and each acceptable write, and so any number of them, keeps it so, as
-/// do another security object, and a local document with a body.
+/// do another security object, and a local document.
 pub fn lawful_databases()
     ensures empty { (security : Value) → IsLawfulDatabase (empty_database security) }
     ensures by_one { (db : Database) (w : DocumentWrite) → IsLawfulDatabase db → IsAcceptable db w → IsLawfulDatabase (with_one db w) }
     ensures by_all { (ws : List DocumentWrite) (db : Database) → IsLawfulDatabase db → AreAcceptable db ws → IsLawfulDatabase (with_all db ws) }
     ensures secured { (db : Database) (security : Value) → IsLawfulDatabase db → IsLawfulDatabase (with_security db security) }
-    ensures local { (db : Database) (id : List ℕ) (document : LocalDocument) → IsLawfulDatabase db → IsBody document.body
+    ensures local { (db : Database) (id : List ℕ) (document : LocalDocument) → IsLawfulDatabase db → IsLocalDocument id document
         → IsLawfulDatabase (with_local db id document) }
+{}
+
+/// The sequence of an empty database is 0; once something was written, it is that of its last
+/// document. Another security object and a local document leave it.
+pub fn last_sequences()
+    ensures empty { (security : Value) → EndsAtLast (empty_database security) }
+    ensures by_all { (ws : List DocumentWrite) (db : Database) → EndsAtLast db → EndsAtLast (with_all db ws) }
+    ensures secured { (db : Database) (security : Value) → EndsAtLast db → EndsAtLast (with_security db security) }
+    ensures local { (db : Database) (id : List ℕ) (document : LocalDocument) → EndsAtLast db → EndsAtLast (with_local db id document) }
 {}
 
 /// Each document of a lawful database has a winner, something is held of it, and each body that is

@@ -1,6 +1,6 @@
 ghost use Rattle.std.specs.Prelude.{◌≡◌, ⊤};
 ghost use Rattle.std.specs.FinMap as map;
-ghost use Rattle.store.specs.Lawful.{AreLawful};
+ghost use Rattle.store.specs.Lawful.{AllEndAtLast, AreLawful};
 ghost use Rattle.store.specs.Plain.{contents_of};
 
 use crate::database_name::DbName;
@@ -28,6 +28,7 @@ use tree::{DocId, Entry, History, MarkedRev, Outline, Rev};
 pub struct PlainStore {
     databases: Databases,
     ghost lawful: { ∥ AreLawful (contents_of databases.items) ∥₁ },
+    ghost ends: { ∥ AllEndAtLast (contents_of databases.items) ∥₁ },
 }
 
 // Written out, so that callers do not prove again how each part is dropped.
@@ -203,4 +204,6 @@ impl Store for PlainStore {
     }
 
     ghost lawful = { λ s _. s.lawful };
+
+    ghost ends = { λ s _. s.ends };
 }

@@ -5,7 +5,7 @@ ghost use Rattle.store.specs.Contents.{Contents, AreAcceptable, IfThere, IsThere
 ghost use Rattle.store.specs.Database.{DocumentWrite, history_at, with_all};
 ghost use Rattle.store.specs.KeyPages.{page_of_keys};
 ghost use Rattle.store.specs.KeyPageStructs.{HasKeyCounts, key_page_in};
-ghost use Rattle.store.specs.Lawful.{AreLawful, IsBody};
+ghost use Rattle.store.specs.Lawful.{AllEndAtLast, AreLawful, IsLocalDocument};
 ghost use Rattle.store.specs.Leaving.{Answers, ChangesWhole, OnlyReads};
 ghost use Rattle.store.specs.Pages.{page_of_ids, page_by_sequence};
 ghost use Rattle.store.specs.PageStructs.{IsBounded, IsCounted, id_page_of, sequence_page_of};
@@ -159,7 +159,8 @@ pub trait Store {
     ///
     /// A write's path goes on with what the history, once the writes before it are in, knows behind
     /// its parent. The caller owes that each path is whole, that its head is not known and that it
-    /// gives no known revision another parent, and that each body is an object at most 100 deep.
+    /// gives no known revision another parent, that each body is an object at most 100 deep without
+    /// special members, and that no id is a local one.
     fn commit(&mut self, name: &DbName, writes: &[Write]) -> Result<(), StoreFault>
         requires { is_honest self.old → IfThere (map.get (contents self.old) name.now)
             (λ db. AreAcceptable db (writings_in db (additions writes.now))) }
@@ -183,15 +184,15 @@ pub trait Store {
     /// Writes a local document in the place of the one of this id, whatever its number. `NoDatabase`
     /// comes if and only if there is no database of this name; `Full` never comes.
     ///
-    /// The caller owes that the body is an object at most 100 deep. The id is a local one, `_local/` and
-    /// a name; no store tests that.
+    /// The caller owes that the id is a local one, `_local/` and a name, that the number lies from 1 to
+    /// 2^31 - 1, and that the body is an object at most 100 deep without special members.
     fn set_local(
         &mut self,
         name: &DbName,
         id: &DocId,
         document: &LocalDocument,
     ) -> Result<(), StoreFault>
-        requires { is_honest self.old → IfThere (map.get (contents self.old) name.now) (λ _. IsBody document.now.body) }
+        requires { is_honest self.old → IfThere (map.get (contents self.old) name.now) (λ _. IsLocalDocument id.now document.now) }
         ensures ok { is_honest self.new
             → OnOk result (option_map (λ db. map.insert (contents self.old) name.now (with_local db id.now document.now))
             (map.get (contents self.old) name.now) ≡ Some (contents self.new)) }
@@ -206,4 +207,7 @@ pub trait Store {
 
     /// What an honest store holds is lawful.
     ghost lawful: { (s : Self) → is_honest s → ∥ AreLawful (contents s) ∥₁ };
+
+    /// In an honest store the sequence of a database is that of its last document, or 0.
+    ghost ends: { (s : Self) → is_honest s → ∥ AllEndAtLast (contents s) ∥₁ };
 }

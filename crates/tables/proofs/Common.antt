@@ -58,7 +58,7 @@ pub use Rattle.store.proofs.Lawfuls.{lawful_by_one, lawful_empty, lawful_insert,
 pub use Rattle.store.specs.Contents.{AreAcceptable, Contents, IsAcceptable, new_database, with_local, with_security}
 pub use Rattle.store.specs.Database.{Document, DocumentWrite, TextMap, history_at, with_all, with_one}
 pub use Rattle.store.specs.DatabaseName.{is_database_name}
-pub use Rattle.store.specs.Lawful.{AreLawful, IsBody}
+pub use Rattle.store.specs.Lawful.{AllEndAtLast, AreLawful, EndsAtLast, HasLast, IsBody, IsLocalDocument}
 pub use Rattle.store.specs.Pages.{SequenceRow, document_counts, gone_count, in_sequence, is_gone_by, live_count, live_rev, live_rev_by, put_in_sequence, rows_of, with_row}
 pub use Rattle.store.specs.Writing.{Addition, written_in}
 pub use Rattle.store.specs.declared.local_document.LocalDocument.{LocalDocument}

@@ -46,7 +46,7 @@ module _ (a e : sqlite.Database) (name : List ℕ) (r : Row) (w : DocumentWrite)
   counts = whole_counts w.write.path (added_is before w.write.path (ap (λ (k : HistoryContent). placement k w.write.path) (sym (document_found t r w.id is.laid)) ∙ ok.acceptable.placed)).whole
 
   kept : IsKept (held_of_write w.write)
-  kept = record { body = record { object = ok.acceptable.body; shallow = ok.acceptable.shallow }; lawful = ok.storable.body }
+  kept = record { body = record { object = ok.acceptable.body; shallow = ok.acceptable.shallow; plain = ok.acceptable.plain }; lawful = ok.storable.body }
 
   entries_are : AllByRecursion (IsPathEntry w.write.path) entries
   entries_are =
@@ -87,6 +87,7 @@ module _ (a e : sqlite.Database) (name : List ℕ) (r : Row) (w : DocumentWrite)
     is = k.is;
     there = number_still (db_of x) k.there;
     named = k.named;
+    apart = k.apart;
     text = k.text;
     positive = k.positive;
     within = λ d now.
@@ -102,6 +103,7 @@ module _ (a e : sqlite.Database) (name : List ℕ) (r : Row) (w : DocumentWrite)
     is = ap (λ b. document_row k db w.id (pos sequence) (text_of h.best) b) (sym (flag_again gone));
     there = number_still db (number_there t is.laid name r ok.found);
     named = ok.storable.named;
+    apart = ok.acceptable.apart;
     text = ok.storable.text;
     positive = omega arith;
     within = λ d now. let same = ap sequence_of_database (own_changed t is.laid name r ok.found advanced (λ x. refl) (λ x. refl) d now) in omega (arith, same);
@@ -159,7 +161,7 @@ module _ (a e : sqlite.Database) (name : List ℕ) (r : Row) (w : DocumentWrite)
   -- ---- local documents
 
   local_still : (x : Row) → IsLocalRow t x → IsLocalRow u x
-  local_still x k = record { is = k.is; there = number_still (db_of x) k.there; named = k.named; small = k.small; body = k.body }
+  local_still x k = record { is = k.is; there = number_still (db_of x) k.there; named = k.named; local = k.local }
 
   -- ---- the databases
 

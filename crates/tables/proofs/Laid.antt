@@ -78,7 +78,7 @@ shown_databases trees h =
 pub shown_locals : (trees : Trees) → IsWellFormed trees → AllByRecursion (λ r. IsShownLocal (shown_local r)) (trees locals_tree)
 shown_locals trees h =
     all_weaker (IsLocalRow trees) (λ r. IsShownLocal (shown_local r))
-    (λ r k. record { width = refl; number = ((local_of r).number, ap (λ x. column x 3) k.is, k.small); body = spells (column r 4) (ap (λ x. column x 4) k.is) }) (trees locals_tree) h.locals
+    (λ r k. record { width = refl; number = ((local_of r).number, ap (λ x. column x 3) k.is, omega (arith, k.local.last)); body = spells (column r 4) (ap (λ x. column x 4) k.is) }) (trees locals_tree) h.locals
 
 -- ---- known revisions are lawful
 

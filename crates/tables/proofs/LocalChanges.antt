@@ -1,5 +1,5 @@
 -- The databases that the tables hold after a local document of one is written.
-use Rattle.tables.proofs.Common.{AreLawful, Changes, IsBody, IsDocumentRow, IsWellFormed, IsLawful, IsLocalRow, IsRevisionRow, IsStore, IsTrue, List, LocalDocument, Row, Some, Trees, [], all-append, all-filter, all_weaker, ap, arith, canonical, contents_in, database_of_row, dbs_tree, docs_tree, filter, is_document_id, is_named, is_row_of_document, lawful_insert, lawful_local, local_cells, local_of, local_row, locals_in, locals_tree, next_number, not, number_of, option_map, refl, revs_tree, slice_get, subst, sym, with_cells, with_local, ℕ, ℤ, ∥∥₁_map, ◌++◌, ◌<◌, ◌^◌, ◌∙◌, ◌∷◌, ◌≡◌}
+use Rattle.tables.proofs.Common.{AreLawful, Changes, IsDocumentRow, IsWellFormed, IsLawful, IsLocalDocument, IsLocalRow, IsRevisionRow, IsStore, IsTrue, List, LocalDocument, Row, Some, Trees, [], all-append, all-filter, all_weaker, ap, arith, canonical, contents_in, database_of_row, dbs_tree, docs_tree, filter, is_document_id, is_named, is_row_of_document, lawful_insert, lawful_local, local_cells, local_of, local_row, locals_in, locals_tree, next_number, not, number_of, option_map, refl, revs_tree, slice_get, subst, sym, with_cells, with_local, ℕ, ℤ, ∥∥₁_map, ◌++◌, ◌∙◌, ◌∷◌, ◌≡◌}
 use Rattle.std.specs.FinMap as finite
 use Rattle.sqlite.specs.Effect as sqlite
 use Rattle.tables.proofs.Kept.{numbered-filter, numbered-with_cells}
@@ -8,7 +8,7 @@ use Rattle.tables.proofs.ReplacedRows.{ids_stay_apart, other_values, own_values}
 use Rattle.tables.proofs.Rests.{contents_same, document_kept, local_kept, after_change, revision_kept, spelled, store_of, unchanged, with_rows}
 
 module _ (a b c : sqlite.Database) (name : List ℕ) (d : Row) (id : List ℕ) (document : LocalDocument) (h : IsStore a) (is : slice_get (filter (is_named name) (a.trees dbs_tree)) 0 ≡ Some d)
-    (is_id : IsTrue (is_document_id id)) (body : IsBody document.body) (lawful : IsLawful document.body) (small : document.number < 2 ^ 32)
+    (is_id : IsTrue (is_document_id id)) (local : IsLocalDocument id document) (lawful : IsLawful document.body)
     (first : Changes locals_tree (filter (λ r. not (is_row_of_document (number_of d) id r)) (a.trees locals_tree)) a b)
     (second : Changes locals_tree (with_cells (b.trees locals_tree) (local_cells (number_of d) id document.number (canonical document.body))) b c) where
   abbrev n : ℤ
@@ -27,7 +27,7 @@ module _ (a b c : sqlite.Database) (name : List ℕ) (d : Row) (id : List ℕ) (
   written = with_rows (with_rows a.trees locals_tree kept) locals_tree (kept ++ new_row ∷ [])
 
   document_is : local_of new_row ≡ document
-  document_is = ap (λ v. record { number = document.number; body = v }) (spelled document.body lawful (omega (arith, body.shallow)))
+  document_is = ap (λ v. record { number = document.number; body = v }) (spelled document.body lawful (omega (arith, local.body.shallow)))
 
   written_contents : contents_in written ≡ finite.insert (contents_in a.trees) name (with_local (database_of_row a.trees d) id document)
   written_contents =
@@ -42,8 +42,7 @@ module _ (a b c : sqlite.Database) (name : List ℕ) (d : Row) (id : List ℕ) (
     is = ap (λ (x : LocalDocument). local_row (next_number kept) n id x.number (canonical x.body)) (sym document_is);
     there = number_there a.trees h.laid name d is;
     named = is_id;
-    small = small;
-    body = subst (λ (x : LocalDocument). IsBody x.body) (sym document_is) body;
+    local = subst (λ (x : LocalDocument). IsLocalDocument id x) (sym document_is) local;
   }
 
   written_laid : IsWellFormed written
@@ -68,7 +67,7 @@ module _ (a b c : sqlite.Database) (name : List ℕ) (d : Row) (id : List ℕ) (
         lawful = ∥∥₁_map l.lawful (λ was.
             subst AreLawful (sym written_contents)
             (lawful_insert (contents_in a.trees) name (with_local (database_of_row a.trees d) id document) was
-            (lawful_local (database_of_row a.trees d) id document (was name (database_of_row a.trees d) (database_there a.trees l name d is)) body)));
+            (lawful_local (database_of_row a.trees d) id document (was name (database_of_row a.trees d) (database_there a.trees l name d is)) local)));
       }
 
   pub written_store : IsStore c × (option_map (λ db. finite.insert (contents_in a.trees) name (with_local db id document)) (finite.get (contents_in a.trees) name) ≡ Some (contents_in c.trees))

@@ -48,6 +48,7 @@ module _ (old new : Trees) where
     is = k.is;
     there = number_kept (old dbs_tree) (new dbs_tree) (db_of r) same k.there;
     named = k.named;
+    apart = k.apart;
     text = k.text;
     positive = k.positive;
     within = λ d. within_kept (database_row_at (old dbs_tree) (db_of r)) (database_row_at (new dbs_tree) (db_of r)) d (sequence_of_row r) same k.within;
@@ -72,8 +73,7 @@ module _ (old new : Trees) where
     is = k.is;
     there = number_kept (old dbs_tree) (new dbs_tree) (db_of r) same k.there;
     named = k.named;
-    small = k.small;
-    body = k.body;
+    local = k.local;
   }
 
 -- ---- tables with the same rows

@@ -1,17 +1,17 @@
 -- When the rows of the tables are laid out as this server lays them out.
 -- This server's own: what an opened file is held to, and what each write keeps.
-use Rattle.std.specs.Prelude.{◌≡◌, ◌≢◌, ◌≤◌, ◌<◌, ◌^◌, ◌↔◌, IsTrue, IsUtf8, ℕ, ℤ, pos, ◌<ℤ◌, List, [], ◌∷◌, find, Option, Some, None, option_map}
+use Rattle.std.specs.Prelude.{◌≡◌, ◌≢◌, ◌≤◌, ◌<◌, ◌^◌, ◌↔◌, IsTrue, IsUtf8, ℕ, ℤ, pos, ◌<ℤ◌, false, List, [], ◌∷◌, find, Option, Some, None, option_map}
 use Rattle.std.specs.List.{AllByRecursion, list_any}
 use Rattle.std.specs.Ordering.{int_eq}
 use Rattle.couch_json.specs.Canonical.{canonical}
 use Rattle.couch_json.specs.Lawful as json
 use Rattle.policy.specs.Security.{is_security}
-use Rattle.tree.specs.DocumentId.{is_document_id}
+use Rattle.tree.specs.DocumentId.{is_document_id, is_local_id}
 use Rattle.tree.specs.History.{is_known, held_of, is_deleted, winner}
 use Rattle.tree.specs.Revision.{Revision, is_revision, text_of}
 use Rattle.tree.specs.declared.entry.Held.{Held}
 use Rattle.store.specs.DatabaseName.{is_database_name}
-use Rattle.store.specs.Lawful.{AreLawful, IsBody}
+use Rattle.store.specs.Lawful.{AllEndAtLast, AreLawful, IsBody, IsLocalDocument}
 use Rattle.sqlite_value.specs.declared.value.Value.TheVariants.{Int, Blob}
 use Rattle.sqlite_value.specs.Order.{Row, column}
 use Rattle.sqlite_trees.specs.Tree.{Trees, IsAscending, rowid}
@@ -64,11 +64,12 @@ pub record IsDatabaseRow (r : Row) : Type 0 where
   pub security : IsTrue (is_security (security_of r))
   pub bounded : sequence_of_database r < 2 ^ 63
 
--- the row of a document of a known database, at its winner
+-- the row of a document of a known database, at its winner, under an id that is no local one
 pub record IsDocumentRow (trees : Trees) (r : Row) : Type 0 where
   pub is : r ≡ document_row (number_of r) (db_of r) (id_of r) (pos (sequence_of_row r)) (winner_text r) (is_gone_row r)
   pub there : IsDatabaseNumber trees (db_of r)
   pub named : IsTrue (is_document_id (id_of r))
+  pub apart : is_local_id (id_of r) ≡ false
   pub text : IsUtf8 (id_of r)
   pub positive : 1 ≤ sequence_of_row r
   pub within : (d : Row) → database_row_at (trees dbs_tree) (db_of r) ≡ Some d → sequence_of_row r ≤ sequence_of_database d
@@ -91,8 +92,7 @@ pub record IsLocalRow (trees : Trees) (r : Row) : Type 0 where
   pub is : r ≡ local_row (number_of r) (db_of r) (id_of r) (local_of r).number (canonical (local_of r).body)
   pub there : IsDatabaseNumber trees (db_of r)
   pub named : IsTrue (is_document_id (id_of r))
-  pub small : (local_of r).number < 2 ^ 32
-  pub body : IsBody (local_of r).body
+  pub local : IsLocalDocument (id_of r) (local_of r)
 
 -- All rows are so, no two of one table say the same thing, the databases that they hold are lawful, and the version is this one.
 pub record IsLaidAt (n : ℕ) (trees : Trees) : Type 0 where
@@ -121,10 +121,12 @@ pub record IsStore (db : sqlite.Database) : Type 0 where
   pub schema_is : db.schema ≡ schema
   pub laid : IsWellFormed db.trees
 
--- The same of a file of the first version, whose rows of indexes are of an earlier layout: nothing is known of them but that their numbers rise.
+-- The same of a file of the first version between two calls, where each database's sequence is that of its last document. Its rows of
+-- indexes are of an earlier layout: nothing is known of them but that their numbers rise.
 pub record IsFirstStore (db : sqlite.Database) : Type 0 where
   pub schema_is : db.schema ≡ schema
   pub laid : IsLaidAt 1 db.trees
+  pub ends : ∥ AllEndAtLast (contents_in db.trees) ∥₁
   pub decls_numbered : AreNumbered (db.trees decls_tree)
   pub entries_numbered : AreNumbered (db.trees entries_tree)
 

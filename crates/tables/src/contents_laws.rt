@@ -9,7 +9,7 @@ ghost use Rattle.couch_json.specs.Value.{Value};
 ghost use Rattle.policy.specs.Security.{closed_security, is_security};
 ghost use Rattle.store.specs.Contents as store;
 ghost use Rattle.store.specs.DatabaseName.{is_database_name};
-ghost use Rattle.store.specs.Lawful.{IsBody};
+ghost use Rattle.store.specs.Lawful.{IsLocalDocument};
 ghost use Rattle.store.specs.declared.local_document.LocalDocument.{LocalDocument};
 ghost use Rattle.tree.specs.DocumentId.{is_document_id};
 ghost use Rattle.sqlite.specs.Effect as sqlite;
@@ -50,7 +50,7 @@ pub fn another_security()
 pub fn another_local()
     ensures { (a b c : sqlite.Database) (name : List ℕ) (d : Row) (id : List ℕ) (document : LocalDocument) → IsStore a
         → slice_get (filter (is_named name) (a.trees dbs_tree)) 0 ≡ Some d
-        → IsTrue (is_document_id id) → IsBody document.body → IsLawful document.body → document.number < 2 ^ 32
+        → IsTrue (is_document_id id) → IsLocalDocument id document → IsLawful document.body
         → Changes locals_tree (filter (λ r. not (is_row_of_document (number_of d) id r)) (a.trees locals_tree)) a b
         → Changes locals_tree (with_cells (b.trees locals_tree) (local_cells (number_of d) id document.number (canonical document.body))) b c
         → IsStore c × (option_map (λ db. finite.insert (contents_in a.trees) name (store.with_local db id document))

@@ -50,6 +50,7 @@ moved_twice n s t rows = map-map moved_to moved_from rows ∙ map_same (λ r. mo
 lawful_longer : (db : store.Database) (n : ℕ) → db.length ≤ n → IsLawfulDatabase db → IsLawfulDatabase (record db { length = n })
 lawful_longer db n low h = record {
   documents = h.documents;
+  apart = h.apart;
   sequences = record { positive = h.sequences.positive; within = λ id d is. let own = h.sequences.within id d is in omega (arith, own, low); distinct = h.sequences.distinct };
   locals = h.locals;
 }
@@ -75,6 +76,7 @@ module _ (trees : Trees) (h : IsWellFormed trees) (name : List ℕ) (d : Row) (i
     is = k.is;
     there = number_still (db_of x) k.there;
     named = k.named;
+    apart = k.apart;
     text = k.text;
     positive = k.positive;
     within = λ e now.
@@ -86,7 +88,7 @@ module _ (trees : Trees) (h : IsWellFormed trees) (name : List ℕ) (d : Row) (i
   }
 
   local_still : (x : Row) → IsLocalRow trees x → IsLocalRow moved x
-  local_still x k = record { is = k.is; there = number_still (db_of x) k.there; named = k.named; small = k.small; body = k.body }
+  local_still x k = record { is = k.is; there = number_still (db_of x) k.there; named = k.named; local = k.local }
 
   moved_laid : IsWellFormed moved
   moved_laid = record {

@@ -11,10 +11,11 @@ use Rattle.sqlite_trees.specs.declared.store.Store.{Ghosts}
 use Rattle.sqlite_trees.specs.Tree.{Trees}
 use Rattle.sqlite_value.specs.Order.{Row}
 use Rattle.store.specs.Database.{DocumentWrite}
+use Rattle.store.specs.Lawful.{AllEndAtLast}
 use Rattle.store.specs.Writing.{Addition, written_in}
 use Rattle.tables.specs.Edits.{IsWrite}
 use Rattle.tables.specs.Layout.{IsStore}
-use Rattle.tables.specs.Rows.{history_in_rows, sequence_of_database, number_of}
+use Rattle.tables.specs.Rows.{contents_in, history_in_rows, sequence_of_database, number_of}
 use Rattle.tables.specs.Schema.{decls_tree, revs_tree}
 use Rattle.index.specs.Calls.{ChangesIndexes}
 use Rattle.index.specs.Indexed.{AreIndexed, IsIndexed}
@@ -38,6 +39,11 @@ use Rattle.transactions.specs.declared.commit_fault.CommitFault.TheVariants as f
 pub record IsIndexedStore (db : Database) : Type 0 where
   pub store : IsStore db
   pub indexed : IsIndexed db.trees
+
+-- The same between two calls, where the sequence of each database is that of its last document. Within a call the sequence moves first.
+pub record IsCommittedStore (db : Database) : Type 0 where
+  pub rows : IsIndexedStore db
+  pub ends : ∥ AllEndAtLast (contents_in db.trees) ∥₁
 
 -- these are all indexes of the database of this number
 abbrev pub AreAllIndexes : List Declared → ℤ → Trees → Type 0

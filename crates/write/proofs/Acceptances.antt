@@ -1,6 +1,9 @@
 -- A write that is admitted may be appended.
-use Rattle.std.proofs.Common.{◌≡◌, ◌==◌, ℕ, Bool, true, false, cond, List, [], ◌∷◌, Option, Some, None, option_map, option_and_then, Result, Ok, Err, refl, ap, ◌∙◌, subst, sym}
+use Rattle.std.proofs.Common.{◌≡◌, ◌==◌, ℕ, Bool, true, false, not, ◌&&◌, cond, List, [], ◌∷◌, Option, Some, None, option_map, option_and_then, Result, Ok, Err, refl, ap, ◌∙◌, subst, sym}
 use Rattle.couch_json.specs.Value.{Value}
+use Rattle.std.specs.Cmp.{first_so}
+use Rattle.std.specs.Prelude.{codes}
+use Rattle.tree.specs.DocumentId.{is_design_id, is_document_id, is_local_id}
 use Rattle.tree.specs.Revision.{Revision, greatest_number}
 use Rattle.tree.specs.NextRevision.{next_revision, number_before}
 use Rattle.tree.specs.Write.{Write, AreLawfulWrites as AreWritten}
@@ -9,18 +12,19 @@ use Rattle.tree.specs.declared.placement.Placed.{Placed}
 use Rattle.tree.specs.declared.placement.Placed.TheVariants.{Added, Known}
 use Rattle.tree.specs.declared.placement.TreeFault.{TreeFault}
 use Rattle.store.specs.Contents.{AreAcceptable, Contents, IsAcceptable}
-use Rattle.store.specs.Lawful.{AreLawful, IsLawfulDatabase}
+use Rattle.store.specs.Lawful.{AreLawful, IsBody, IsLawfulDatabase}
+use Rattle.store.specs.SpecialMembers.{is_plain}
 use Rattle.store.specs.Database.{Database, DocumentWrite, history_at, with_one}
 use Rattle.store.proofs.Contents.{history_at-with_one}
+use Rattle.store.proofs.DesignIds.{behind}
 use Rattle.store.proofs.Lawfuls.{lawful_by_one, writes_behind}
 use Rattle.write.specs.Admission.{admission, edit_outcome, given, named_revision, replication, revision_after, with_named_revision}
 use Rattle.write.specs.Bulk.{DocumentOutcome, after, as_outcome, document_outcome, outcome_in, outcomes, put_before, writes_in}
-use Rattle.write.specs.Document.{id_in, sent_in}
+use Rattle.write.specs.Document.{id_in, id_in_bulk, member_text, sent_in}
 use Rattle.write.specs.IndexWrites.{index_admission, index_document}
 use Rattle.write.specs.Terms.{Terms}
 use Rattle.write.specs.declared.document.ParsedDocument.{ParsedDocument}
 use Rattle.write.specs.declared.fault.WriteFault.TheVariants.{BadDocument}
-use Rattle.store.specs.Lawful.{IsBody}
 use Rattle.write.proofs.Bodies.{sent_in-Some}
 use Rattle.write.proofs.Fitting.{edit_placed}
 use Rattle.write.proofs.Names.{as_outcome-Some, index_by_edit}
@@ -90,23 +94,44 @@ judged_fits terms true id h document v made e =
     edit_fits terms id h None document v made (edit_accepted terms id h None document v (as_outcome-Some (edit_outcome terms id h None document) v e))
 judged_fits terms false id h document v made e = replicated_fits terms id h document v (replicated_accepted terms id h document (Some v) e)
 
-acceptable : (db : Database) (id : List ℕ) (w : DocumentWrite) → Fits id (history_at db id) w → IsAcceptable db w
-acceptable db id w f = record { placed = ap (λ k. placement (history_at db k) w.write.path) f.named ∙ f.placed; body = f.body.object; shallow = f.body.shallow }
+acceptable : (db : Database) (id : List ℕ) (w : DocumentWrite) → is_local_id id ≡ false → Fits id (history_at db id) w → IsAcceptable db w
+acceptable db id w apart f = record { apart = ap is_local_id f.named ∙ apart; placed = ap (λ k. placement (history_at db k) w.write.path) f.named ∙ f.placed; body = f.body.object; shallow = f.body.shallow; plain = f.body.plain }
 
 pub edit_acceptable : (terms : Terms) (db : Database) (id : List ℕ) (query : Option Revision) (document : Value) (w : DocumentWrite)
-    → IsLawfulDatabase db → admission terms db id query document ≡ Ok w → IsAcceptable db w
-edit_acceptable terms db id query document w lawful e =
-    acceptable db id w (edit_fits terms id (history_at db id) query document w (made_at db id lawful) (edit_accepted terms id (history_at db id) query document w e))
+    → IsLawfulDatabase db → is_local_id id ≡ false → admission terms db id query document ≡ Ok w → IsAcceptable db w
+edit_acceptable terms db id query document w lawful apart e =
+    acceptable db id w apart (edit_fits terms id (history_at db id) query document w (made_at db id lawful) (edit_accepted terms id (history_at db id) query document w e))
 
-pub replicated_acceptable : (terms : Terms) (db : Database) (id : List ℕ) (document : Value) (w : DocumentWrite) → replication terms db id document ≡ Ok (Some w) → IsAcceptable db w
-replicated_acceptable terms db id document w e =
-    acceptable db id w (replicated_fits terms id (history_at db id) document w (replicated_accepted terms id (history_at db id) document (Some w) e))
+pub replicated_acceptable : (terms : Terms) (db : Database) (id : List ℕ) (document : Value) (w : DocumentWrite) → is_local_id id ≡ false → replication terms db id document ≡ Ok (Some w) → IsAcceptable db w
+replicated_acceptable terms db id document w apart e =
+    acceptable db id w apart (replicated_fits terms id (history_at db id) document w (replicated_accepted terms id (history_at db id) document (Some w) e))
 
 by_id-acceptable : (terms : Terms) (new_edits : Bool) (db : Database) (document : Value) (id : Option (List ℕ)) (w : DocumentWrite)
-    → IsLawfulDatabase db → given BadDocument id (λ k. document_outcome terms new_edits k (history_at db k) document) ≡ Ok (Some w) → IsAcceptable db w
-by_id-acceptable terms new_edits db document None w lawful e = absurd cc
-by_id-acceptable terms new_edits db document (Some id) w lawful e =
-    acceptable db id w (judged_fits terms new_edits id (history_at db id) document w (made_at db id lawful) e)
+    → IsLawfulDatabase db → ((k : List ℕ) → id ≡ Some k → is_local_id k ≡ false) → given BadDocument id (λ k. document_outcome terms new_edits k (history_at db k) document) ≡ Ok (Some w) → IsAcceptable db w
+by_id-acceptable terms new_edits db document None w lawful apart e = absurd cc
+by_id-acceptable terms new_edits db document (Some id) w lawful apart e =
+    acceptable db id w (apart id refl) (judged_fits terms new_edits id (history_at db id) document w (made_at db id lawful) e)
+
+-- ---- ids that are no local ones
+
+-- that of a design document
+pub design_apart : (id : List ℕ) → is_design_id id ≡ true → is_local_id id ≡ false
+design_apart id design = ap is_local_id (behind (codes "_design/") id (first_so _ _ design)).1
+
+-- that of a document of a bulk
+in_bulk : (text id : List ℕ) (document local : Bool) → local ≡ is_local_id text → cond (document && not local) (Some text) None ≡ Some id → is_local_id id ≡ false
+in_bulk text id true true is e = absurd cc
+in_bulk text id true false is e = let same : text ≡ id = cc in ap is_local_id (sym same) ∙ sym is
+in_bulk text id false local is e = absurd cc
+
+bulk_apart : (document : Value) (id : List ℕ) → id_in document ≡ Some id → is_local_id id ≡ false
+bulk_apart document id e = by (member_text (codes "_id") document) e
+  where
+    by : (o : Option (List ℕ)) → option_and_then (λ t. id_in_bulk t) o ≡ Some id → is_local_id id ≡ false
+    by None k = absurd cc
+    by (Some text) k = in_bulk text id (is_document_id text) (is_local_id text) refl k
+
+-- ---- outcomes in turn
 
 -- the database after an outcome
 abbrev pub db_after : Database → DocumentOutcome → Database
@@ -131,7 +156,7 @@ all_acceptable terms new_edits db [] lawful = tt
 all_acceptable terms new_edits db (v ∷ vs) lawful =
     let o : DocumentOutcome = outcome_in terms new_edits (history_at db) v in
     before_acceptable db o (writes_in (outcomes terms new_edits (after (history_at db) o) vs)) lawful
-    (λ w e. by_id-acceptable terms new_edits db v (id_in v) w lawful e)
+    (λ w e. by_id-acceptable terms new_edits db v (id_in v) w lawful (bulk_apart v) e)
     (λ next. subst (λ hs. AreAcceptable (db_after db o) (writes_in (outcomes terms new_edits hs vs))) (sym (after_is db o)) (all_acceptable terms new_edits (db_after db o) vs next))
 
 -- one document alone
@@ -140,19 +165,19 @@ alone_acceptable db (Ok (Some w)) one = (one w refl, tt)
 alone_acceptable db (Ok None) one = tt
 alone_acceptable db (Err fault) one = tt
 
-pub edit_alone_acceptable : (terms : Terms) (db : Database) (id : List ℕ) (query : Option Revision) (document : Value) → IsLawfulDatabase db
+pub edit_alone_acceptable : (terms : Terms) (db : Database) (id : List ℕ) (query : Option Revision) (document : Value) → IsLawfulDatabase db → is_local_id id ≡ false
     → AreAcceptable db (writes_in (as_outcome (admission terms db id query document) ∷ []))
-edit_alone_acceptable terms db id query document lawful =
-    alone_acceptable db (as_outcome (admission terms db id query document)) (λ w e. edit_acceptable terms db id query document w lawful (as_outcome-Some (admission terms db id query document) w e))
+edit_alone_acceptable terms db id query document lawful apart =
+    alone_acceptable db (as_outcome (admission terms db id query document)) (λ w e. edit_acceptable terms db id query document w lawful apart (as_outcome-Some (admission terms db id query document) w e))
 
-pub replicated_alone_acceptable : (terms : Terms) (db : Database) (id : List ℕ) (document : Value) → AreAcceptable db (writes_in (replication terms db id document ∷ []))
-replicated_alone_acceptable terms db id document = alone_acceptable db (replication terms db id document) (λ w e. replicated_acceptable terms db id document w e)
+pub replicated_alone_acceptable : (terms : Terms) (db : Database) (id : List ℕ) (document : Value) → is_local_id id ≡ false → AreAcceptable db (writes_in (replication terms db id document ∷ []))
+replicated_alone_acceptable terms db id document apart = alone_acceptable db (replication terms db id document) (λ w e. replicated_acceptable terms db id document w apart e)
 
-pub index_alone_acceptable : (terms : Terms) (db : Database) (id : List ℕ) (name : List ℕ) (fields : List (List ℕ)) → IsLawfulDatabase db
+pub index_alone_acceptable : (terms : Terms) (db : Database) (id : List ℕ) (name : List ℕ) (fields : List (List ℕ)) → IsLawfulDatabase db → is_design_id id ≡ true
     → AreAcceptable db (writes_in (index_admission terms db id name fields ∷ []))
-index_alone_acceptable terms db id name fields lawful =
+index_alone_acceptable terms db id name fields lawful design =
     alone_acceptable db (index_admission terms db id name fields)
-    (λ w e. edit_acceptable terms db id (winner (history_at db id)) (index_document (history_at db id) name fields) w lawful (index_by_edit terms id (history_at db id) name fields w e))
+    (λ w e. edit_acceptable terms db id (winner (history_at db id)) (index_document (history_at db id) name fields) w lawful (design_apart id design) (index_by_edit terms id (history_at db id) name fields w e))
 
 -- ---- what is said of the contents of a store
 
@@ -166,12 +191,18 @@ tested : (b : Bool) → ¬ (¬ (b ≡ true)) → b ≡ true
 tested true sure = refl
 tested false sure = absurd (sure (λ e. cc))
 
+untested : (b : Bool) → ¬ (¬ (b ≡ false)) → b ≡ false
+untested true sure = absurd (sure (λ e. cc))
+untested false sure = refl
+
 sure_acceptable : (db : Database) (w : DocumentWrite) → ∥ IsAcceptable db w ∥₁ → IsAcceptable db w
 sure_acceptable db w known =
     record {
+      apart = untested (is_local_id w.id) (λ no. not_there known (λ a. no a.apart));
       placed = added (placement (history_at db w.id) w.write.path) (λ no. not_there known (λ a. no a.placed));
       body = tested (is_object w.write.body) (λ no. not_there known (λ a. no a.body));
       shallow = ∥∥₁_elim known le_prop (λ a. a.shallow);
+      plain = tested (is_plain w.write.body) (λ no. not_there known (λ a. no a.plain));
     }
 
 sure_all : (db : Database) (ws : List DocumentWrite) → ∥ AreAcceptable db ws ∥₁ → AreAcceptable db ws

@@ -11,7 +11,8 @@ use Rattle.couch_json.specs.Value.{Value, null, truth, whole, text, array, objec
 use Rattle.couch_json.specs.View.{view, members_view}
 use Rattle.couch_json.specs.declared.value.Json.{Json}
 use Rattle.store.specs.Contents.{max_body_depth}
-use Rattle.write.specs.Document.{are_allowed, body_if, remaining_body, fits_id, is_body_for, is_document_member, is_special, mark_in, given_revision, sent_in, sent_with, without_member, without_name, without_special}
+use Rattle.store.specs.SpecialMembers.{is_special}
+use Rattle.write.specs.Document.{are_allowed, body_if, remaining_body, fits_id, is_body_for, is_document_member, mark_in, given_revision, sent_in, sent_with, without_member, without_name, without_special}
 
 abbrev pub Entry : Type 0
 Entry = String Global × Json

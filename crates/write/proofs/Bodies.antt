@@ -1,14 +1,15 @@
 -- What is left of an object's members without the special ones, and what a body that was accepted is.
-use Rattle.std.proofs.Common.{◌≡◌, ◌≤◌, ℕ, Bool, true, false, not, cond, ◌&&◌, List, [], ◌∷◌, filter, String, Global, Option, Some, None, option_map, option_and_then, string_bytes, nat_le, refl, ap, sym, subst, arith}
+use Rattle.std.proofs.Common.{◌≡◌, ◌≤◌, ℕ, Bool, true, false, not, cond, ◌&&◌, List, [], ◌∷◌, filter, String, Global, Option, Some, None, option_map, option_and_then, string_bytes, nat_le, refl, ◌∙◌, ap, sym, subst, arith}
 use Rattle.std.proofs.lemmas.Bool.Decides.{nat_tests}
 use Rattle.couch_json.specs.Parts.{is_object}
-use Rattle.couch_json.specs.Value.{Value, null, truth, whole, text, array, object, Members, member, depth}
+use Rattle.couch_json.specs.Value.{Value, null, truth, whole, text, array, object, Members, no_members, member, depth}
 use Rattle.couch_json.specs.View.{view, members_view}
 use Rattle.couch_json.specs.declared.value.Json.{Json}
 use Rattle.store.specs.Contents.{max_body_depth}
 use Rattle.store.specs.Lawful.{IsBody}
+use Rattle.store.specs.SpecialMembers.{are_plain, is_plain as is_plain_body, is_special}
 use Rattle.tree.specs.Revision.{Revision}
-use Rattle.write.specs.Document.{are_allowed, body_for, body_if, body_in, is_body_for, is_document_member, is_special, sent_in, sent_with, without_special, words_in}
+use Rattle.write.specs.Document.{are_allowed, body_for, body_if, body_in, is_body_for, is_document_member, sent_in, sent_with, without_special, words_in}
 use Rattle.write.specs.declared.document.ParsedDocument.{ParsedDocument}
 
 abbrev pub Entry : Type 0
@@ -35,13 +36,22 @@ taken : (test : Bool) (v body : Value) → cond test (Some v) None ≡ Some body
 taken true v body h = (cc, refl)
 taken false v body h = absurd cc
 
-pub body_if-Some : (allowed : Bool) (v body : Value) → is_object v ≡ true → body_if (allowed && nat_le (depth v) max_body_depth) v ≡ Some body → IsBody body
-body_if-Some allowed v body is_obj h =
+-- what is left without the special members has none of them
+pub without_plain : (ms : Members) → are_plain (without_special ms) ≡ true
+without_plain no_members = refl
+without_plain (member name v ms) = by (is_special name) refl (without_plain ms)
+  where
+    by : (b : Bool) → is_special name ≡ b → are_plain (without_special ms) ≡ true → are_plain (cond b (without_special ms) (member name v (without_special ms))) ≡ true
+    by true is rest = rest
+    by false is rest = ap (λ (b : Bool). not b && are_plain (without_special ms)) is ∙ rest
+
+pub body_if-Some : (allowed : Bool) (v body : Value) → is_object v ≡ true → is_plain_body v ≡ true → body_if (allowed && nat_le (depth v) max_body_depth) v ≡ Some body → IsBody body
+body_if-Some allowed v body is_obj plain h =
     let (same, test) = taken (allowed && nat_le (depth v) max_body_depth) v body h in
-    rw same (record { object = is_obj; shallow = within allowed (depth v) test })
+    rw same (record { object = is_obj; shallow = within allowed (depth v) test; plain = plain })
 
 body_in-Some : (document body : Value) → body_in document ≡ Some body → IsBody body
-body_in-Some (object ms) body h = body_if-Some (are_allowed is_document_member ms) (object (without_special ms)) body refl h
+body_in-Some (object ms) body h = body_if-Some (are_allowed is_document_member ms) (object (without_special ms)) body refl (without_plain ms) h
 body_in-Some null body h = absurd cc
 body_in-Some (truth b) body h = absurd cc
 body_in-Some (whole n) body h = absurd cc

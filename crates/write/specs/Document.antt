@@ -1,11 +1,11 @@
 -- What a document that a client sends says: its body, the revision that it names, its mark of deletion, and the history that it comes with; and which documents are bad ones.
 -- CouchDB manual, api/document/common ("Special Fields": names that begin with `_` are reserved), api/database/bulk-api (`_revisions`) and ddocs (design documents); that other special members are refused and the limit on depth are this server's own.
-use Rattle.std.specs.Prelude.{ℕ, suc, ◌==◌, Bool, true, false, not, ◌&&◌, ◌||◌, if◌then◌else◌, List, [], ◌∷◌, ℤ, pos, negsuc, Option, Some, None, option_map, option_and_then, codes, nat_eq, nat_le, bytes_eq}
-use Rattle.std.specs.List.{starts_with}
+use Rattle.std.specs.Prelude.{ℕ, suc, ◌==◌, Bool, true, false, not, ◌&&◌, ◌||◌, if◌then◌else◌, List, [], ◌∷◌, ℤ, pos, negsuc, Option, Some, None, option_map, option_and_then, codes, nat_le, bytes_eq}
 use Rattle.couch_json.specs.Parts.{has_only, items_in, members_in, text_in, truth_in, whole_in}
 use Rattle.couch_json.specs.Value.{Value, null, truth, whole, text, array, object, Items, no_items, item, Members, no_members, member, member_of, depth}
 use Rattle.policy.specs.DesignDocuments.{is_design_body}
 use Rattle.store.specs.Contents.{max_body_depth}
+use Rattle.store.specs.SpecialMembers.{is_special}
 use Rattle.tree.specs.DocumentId.{is_design_id, is_document_id, is_local_id}
 use Rattle.tree.specs.Revision.{Revision, greatest_number, revision_of, revision_read}
 use Rattle.write.specs.declared.document.ParsedDocument.{ParsedDocument}
@@ -17,10 +17,6 @@ abbrev pub member_text : List ℕ → Value → Option (List ℕ)
 member_text name v = option_and_then (λ m. text_in m) (member_of v name)
 
 -- ---- special members
-
--- special members have names that begin with an underscore
-abbrev pub is_special : List ℕ → Bool
-is_special name = starts_with nat_eq name (codes "_")
 
 -- those that a document may have
 abbrev pub is_document_member : List ℕ → Bool

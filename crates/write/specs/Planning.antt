@@ -5,7 +5,7 @@ use Rattle.couch_json.specs.Value.{Value}
 use Rattle.policy.specs.Security.{is_security}
 use Rattle.store.specs.Contents.{AreAcceptable, with_local, with_security}
 use Rattle.store.specs.Database.{Database, DocumentWrite, with_all}
-use Rattle.store.specs.Lawful.{IsBody}
+use Rattle.store.specs.Lawful.{IsLocalDocument}
 use Rattle.store.specs.Writing.{additions, writings_in}
 use Rattle.store.specs.declared.local_document.LocalDocument.{LocalDocument}
 use Rattle.write.specs.Bulk.{DocumentOutcome, all_told, writes_in}
@@ -44,7 +44,7 @@ IsLocal (Local id document) = ⊤
 abbrev pub MayBeMade : Changes → Database → Type 0
 MayBeMade (Writes ws) db = AreAcceptable db (writings_in db (additions ws.items))
 MayBeMade (Security s) db = ⊤
-MayBeMade (Local id document) db = IsBody document.body
+MayBeMade (Local id document) db = IsLocalDocument id document
 
 -- the change is this local document, which a write of the id came to
 abbrev pub IsLocalOf : List ℕ → Result LocalDocument WriteFault → Changes → Type 0

@@ -3,7 +3,8 @@
 ghost use Rattle.std.specs.Prelude.{◌≡◌, IfOk, option_map, string_bytes};
 ghost use Rattle.couch_json.specs.View.{view, members_view};
 ghost use Rattle.write.specs.Document.{are_allowed, body_for, body_in, fits_id, id_in_bulk, id_in, is_body_for, is_document_member};
-ghost use Rattle.write.specs.Document.{is_special, mark_in, member_text, given_revision, sent_in, without_special, words_in};
+ghost use Rattle.store.specs.SpecialMembers.{is_special};
+ghost use Rattle.write.specs.Document.{mark_in, member_text, given_revision, sent_in, without_special, words_in};
 ghost use Rattle.write.specs.inner.Edits.{named_of};
 
 use couch_json::{Got, Json, NameMap, NoMemory};

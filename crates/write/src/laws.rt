@@ -2,6 +2,7 @@
 
 ghost use Rattle.std.specs.Prelude.{◌≡◌, ◌↔◌, ◌⊎◌, ◌∷◌, ◌++◌, Bool, false, true, List, ℕ, Ok, Err, Option, Some, None};
 ghost use Rattle.couch_json.specs.Value.{Value};
+ghost use Rattle.tree.specs.DocumentId.{is_local_id};
 ghost use Rattle.tree.specs.History.{ancestors_of_parent, is_known, placement};
 ghost use Rattle.tree.specs.NextRevision.{next_revision};
 ghost use Rattle.tree.specs.Revision.{Revision};
@@ -48,13 +49,13 @@ pub fn edits_fit()
         ⊎ (placement (history_at db id) (next_revision parent deleted body ∷ ancestors_of_parent (history_at db id) parent) ≡ Err TreeFault.OtherParent) }
 {}
 
-/// In a lawful database what is planned may be made: the write of an edit, that of a replicated
-/// document, and those of several documents, one after another.
+/// In a lawful database what is planned may be made: the write of an edit and that of a replicated
+/// document, where its id is no local one, and those of several documents, one after another.
 pub fn plans_are_acceptable()
     ensures edited { (terms : Terms) (db : Database) (id : List ℕ) (query : Option Revision) (document : Value) (w : DocumentWrite) → IsLawfulDatabase db
-        → admission terms db id query document ≡ Ok w → IsAcceptable db w }
+        → is_local_id id ≡ false → admission terms db id query document ≡ Ok w → IsAcceptable db w }
     ensures replicated { (terms : Terms) (db : Database) (id : List ℕ) (document : Value) (w : DocumentWrite)
-        → replication terms db id document ≡ Ok (Some w) → IsAcceptable db w }
+        → is_local_id id ≡ false → replication terms db id document ≡ Ok (Some w) → IsAcceptable db w }
     ensures together { (terms : Terms) (new_edits : Bool) (db : Database) (documents : List Value) → IsLawfulDatabase db
         → AreAcceptable db (writes_in (outcomes terms new_edits (history_at db) documents)) }
 {}

@@ -1,11 +1,12 @@
 //! Writing local documents.
 
-ghost use Rattle.std.specs.Prelude.{◌≡◌, ◌≢◌, [], Bool, Option, true, IfOk, IfErr, None, Ok, Err, is_some, option_map};
+ghost use Rattle.std.specs.Prelude.{◌≡◌, ◌≢◌, [], IsTrue, Bool, Option, true, IfOk, IfErr, None, Ok, Err, is_some, option_map};
 ghost use Rattle.std.specs.FinMap as map;
 ghost use Rattle.couch_json.specs.View.{view, members_view};
 ghost use Rattle.store.specs.Calls.{OnlyReads};
 ghost use Rattle.store.specs.Contents.{IfThere, local_at};
 ghost use Rattle.store.specs.Database.{Database};
+ghost use Rattle.tree.specs.DocumentId.{is_local_id};
 ghost use Rattle.write.specs.Document.{are_allowed};
 ghost use Rattle.write.specs.LocalWrites.{is_local_member, local_body};
 ghost use Rattle.write.specs.LocalWrites.{local_outcome, local_rev, local_rev_in, names_stored, next_number};
@@ -25,8 +26,8 @@ const GREATEST_NUMBER: u32 = 2_147_483_647;
 
 /// Plans what becomes of a local document that is written. It reads the store and changes nothing.
 ///
-/// The id is a local one, `_local/` and a name: whoever reads a path sees to that, and it isn't tested
-/// here.
+/// The id is to be a local one, `_local/` and a name: whoever reads a path sees to that, and it isn't
+/// tested here. Of another id the plan may not be made.
 ///
 /// The first write names no revision, each later one names the stored one, `0-N`, by `_rev`, and
 /// makes `0-M` with M one greater. `BadDocument` comes if and only if the document is no object, has
@@ -45,7 +46,7 @@ pub fn put_local<S: Store>(
     ensures ok { S.is_honest store.new → IfOk result (λ planned. IfThere (map.get (S.contents store.old) db.now) (λ d.
         IsLocalOf id.now (local_outcome (local_at d id.now) id.now (view document)) planned.changes)) }
     ensures kind { IfOk result (λ planned. IsLocal planned.changes) }
-    ensures may { IfOk result (λ planned. (d : Database) → MayBeMade planned.changes d) }
+    ensures may { IsTrue (is_local_id id.now) → IfOk result (λ planned. (d : Database) → MayBeMade planned.changes d) }
     ensures results { IfOk result (λ planned. planned.results.items ≡ []) }
     ensures database { IfOk result (λ planned. planned.database ≡ db.now) }
     ensures refused { S.is_honest store.new → IfErr result (λ fault. IsOwn fault
@@ -69,7 +70,7 @@ fn plan_local(
 ) -> Result<Planned, WriteFault>
     ensures ok { IfOk result (λ planned. IsLocalOf id.now (local_outcome stored id.now (view document)) planned.changes) }
     ensures kind { IfOk result (λ planned. IsLocal planned.changes) }
-    ensures may { IfOk result (λ planned. (d : Database) → MayBeMade planned.changes d) }
+    ensures may { IsTrue (is_local_id id.now) → IfOk result (λ planned. (d : Database) → MayBeMade planned.changes d) }
     ensures results { IfOk result (λ planned. planned.results.items ≡ []) }
     ensures database { IfOk result (λ planned. planned.database ≡ db.now) }
     ensures refused { IfErr result (λ fault. fault ≢ WriteFault.Memory → local_outcome stored id.now (view document) ≡ Err fault) }

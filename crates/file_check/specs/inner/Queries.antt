@@ -59,6 +59,10 @@ length_shown (s ∷ more) = Some (whole_in_cell (column s 0))
 abbrev pub length_at : Trees → ℤ → Option ℤ
 length_at trees db = option_map (λ d. whole_in_cell (column d 4)) (database_row_at (trees dbs_tree) db)
 
+-- what a query of a document by its sequence shows: this sequence
+abbrev pub shown_sequence : Row → Row
+shown_sequence r = column r 3 ∷ []
+
 -- the row of a revision of the document of this id, as it is stored
 abbrev pub is_stored : ℤ → List ℕ → ℤ → List ℕ → Row → Bool
 is_stored db id n hash r = is_row_of_database db r && (bytes_eq (id_of r) id && (int_eq (whole_in_cell (column r 3)) n && bytes_eq (bytes (column r 4)) hash))

@@ -1,29 +1,47 @@
 -- What of a row is told by the row alone.
 -- This server's own, over `Layout` of `tables`.
-use Rattle.std.specs.Prelude.{◌≡◌, ◌≢◌, ◌↔◌, ◌⊎◌, ◌<◌, ◌≤◌, ◌^◌, ℕ, Bool, IsTrue, IsUtf8, List, option_map, int_le, Option, pos, Some, None, true, ℤ}
+use Rattle.std.specs.Prelude.{◌≡◌, ◌≢◌, ◌↔◌, ◌⊎◌, ◌≤◌, ◌||◌, ℕ, Bool, IsTrue, IsUtf8, List, option_map, int_le, Option, pos, Some, None, true, false, ℤ}
+use Rattle.std.specs.Ordering.{int_eq}
 use Rattle.couch_json.specs.Canonical.{canonical}
 use Rattle.couch_json.specs.Lawful as json
-use Rattle.store.specs.Lawful.{IsBody}
-use Rattle.tree.specs.DocumentId.{is_document_id}
+use Rattle.store.specs.Lawful.{IsBody, IsLocalDocument}
+use Rattle.tree.specs.DocumentId.{is_document_id, is_local_id}
 use Rattle.tree.specs.History.{HistoryContent, held_of, is_deleted, winner}
 use Rattle.tree.specs.Revision.{Revision, is_revision, text_of}
 use Rattle.tree.specs.declared.entry.Held.{Held}
 use Rattle.sqlite_value.specs.declared.value.Value.TheVariants.{Int, Null, Text}
 use Rattle.sqlite_value.specs.Order.{Row, bytes, column}
+use Rattle.tables.specs.Layout.{IsDatabaseRow}
 use Rattle.tables.specs.Rows.{body_cell, db_of, document_row, flag, is_held, is_held_deleted, entry_of, id_of, is_gone_row, local_of, local_row, number_of, revision_of_row, revision_row, sequence_of_row, whole_in_cell, winner_text}
 use Rattle.file_check.specs.Tables.{HasHeldLeaves}
+
+-- the text may be the id of a document, and is none of a local one
+pub record IsIdOfDocument (id : List ℕ) : Type 0 where
+  pub named : IsTrue (is_document_id id)
+  pub apart : is_local_id id ≡ false
+  pub text : IsUtf8 id
+
+-- the bytes may be the id of a local document
+pub record IsIdOfLocal (id : List ℕ) : Type 0 where
+  pub named : IsTrue (is_document_id id)
+  pub local : IsTrue (is_local_id id)
 
 -- the row of a local document, whatever its database is
 pub record IsLawfulLocal (r : Row) : Type 0 where
   pub is : r ≡ local_row (number_of r) (db_of r) (id_of r) (local_of r).number (canonical (local_of r).body)
   pub named : IsTrue (is_document_id (id_of r))
-  pub small : (local_of r).number < 2 ^ 32
-  pub body : IsBody (local_of r).body
+  pub local : IsLocalDocument (id_of r) (local_of r)
+
+-- the row of a database, at 0 or where a document is at its sequence
+pub record IsEndedDatabase (r : Row) (there : Bool) : Type 0 where
+  pub row : IsDatabaseRow r
+  pub ends : (int_eq (whole_in_cell (column r 4)) (pos 0) || there) ≡ true
 
 -- the row of a document, whatever its database and its history are
 pub record IsLawfulDocument (r : Row) : Type 0 where
   pub is : r ≡ document_row (number_of r) (db_of r) (id_of r) (pos (sequence_of_row r)) (winner_text r) (is_gone_row r)
   pub named : IsTrue (is_document_id (id_of r))
+  pub apart : is_local_id (id_of r) ≡ false
   pub text : IsUtf8 (id_of r)
   pub positive : 1 ≤ sequence_of_row r
 

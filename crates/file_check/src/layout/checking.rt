@@ -16,7 +16,7 @@ use crate::finding::{CheckFault, Finding, Table, Wrong};
 use crate::indexes::step::{Step, next_number};
 use crate::layout::cells::count_at;
 use crate::layout::checked::Checked;
-use crate::layout::databases::judge_database;
+use crate::layout::databases::check_database;
 use crate::layout::documents::check_document;
 use crate::layout::finding_rows::whole_or_zero;
 use crate::layout::locals::check_local;
@@ -36,7 +36,7 @@ fn check_row<S: Alter>(
         (λ trees found. HasCells table row.now → IsBefore table trees → Judges (IsSoundRow table trees row.now) found) result }
 {
     match table {
-        Checked::Databases => judge_database(alloc, row),
+        Checked::Databases => check_database(alloc, conn, row),
         Checked::Documents => check_document(alloc, conn, row),
         Checked::Revisions => check_revision(alloc, conn, row),
         Checked::Locals => check_local(alloc, conn, row),

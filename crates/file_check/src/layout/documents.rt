@@ -1,8 +1,7 @@
 //! The rows of the documents.
 
-ghost use Rattle.std.specs.Prelude.{◌≡◌, ◌↔◌, ℤ, int_le, IfOk, IsTrue, IsUtf8, MatchOption, Some, is_some, true};
+ghost use Rattle.std.specs.Prelude.{◌≡◌, ◌↔◌, ℤ, int_le, IfOk, IsTrue, MatchOption, Some, is_some, true};
 ghost use Rattle.std.specs.List.{AllByRecursion, list_all};
-ghost use Rattle.tree.specs.DocumentId.{is_document_id};
 ghost use Rattle.tree.specs.History.{held_of};
 ghost use Rattle.sqlite_value.specs.Order.{column};
 ghost use Rattle.tables.specs.Layout.{IsRevisionRow};
@@ -18,23 +17,13 @@ ghost use Rattle.file_check.specs.inner.Queries.{Judges, length_at};
 use crate::finding::{CheckFault, Wrong};
 use crate::layout::cells::{blob_at, count_at, whole_at};
 use crate::layout::finding_rows::{bytes_at, find_length, whole_or_zero};
+use crate::layout::ids::is_id_of_document;
 use crate::layout::statements::history_rows;
 use sqlite::{Alter, Connection, Row};
 use std::alloc::Global;
-use std::str;
 use store::StoreFault;
 use transactions::read_history;
-use tree::{History, Rev, is_document_id};
-
-/// Returns whether the bytes are a text that may be the id of a document.
-fn is_id(bytes: &[u8]) -> bool
-    ensures { IsTrue result ↔ (IsTrue (is_document_id bytes.now) × IsUtf8 bytes.now) }
-{
-    match str::from_utf8(bytes) {
-        Ok(_) => is_document_id(bytes),
-        Err(_) => false,
-    }
-}
+use tree::{History, Rev};
 
 /// Tells what is wrong with the row of a document by itself, if anything is.
 #[tactic(auto, using(crate::proofs::RowForms::document_forms))]
@@ -56,7 +45,7 @@ fn judge_row(row: &Row) -> Option<Wrong>
     if sequence < 1 {
         return Some(Wrong::Sequence);
     }
-    if !is_id(id) {
+    if !is_id_of_document(id) {
         return Some(Wrong::Name);
     }
     None

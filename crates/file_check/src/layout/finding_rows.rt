@@ -6,11 +6,11 @@ ghost use Rattle.sqlite_value.specs.Order.{bytes, column};
 ghost use Rattle.tables.specs.Rows.{is_row_of_document, whole_in_cell};
 ghost use Rattle.tables.specs.Schema.{docs_tree, revs_tree};
 ghost use Rattle.file_check.specs.Inspecting.{Inspects};
-ghost use Rattle.file_check.specs.Tables.{IsShaped};
+ghost use Rattle.file_check.specs.Tables.{IsShaped, is_at_sequence};
 ghost use Rattle.file_check.specs.inner.Queries.{is_shown_hash, is_stored, length_at, length_shown};
 
 use crate::finding::CheckFault;
-use crate::layout::statements::{hash_rows, length_rows, one_document_rows, stored_rows};
+use crate::layout::statements::{hash_rows, length_rows, one_document_rows, sequence_rows, stored_rows};
 use sqlite::{Alter, Connection, Row};
 use sqlite_value::value::ValueRef;
 use std::str;
@@ -62,6 +62,18 @@ pub(crate) fn has_document<S: Alter>(
     ensures { Inspects S.Store IsShaped conn.old conn.new (λ trees found. found ≡ list_any (is_row_of_document db.now id.now) (trees docs_tree)) result }
 {
     let rows = one_document_rows(conn, db, id)?;
+    Ok(is_any(&rows))
+}
+
+/// Tells whether a document of the database of this number is at this sequence.
+pub(crate) fn has_sequence<S: Alter>(
+    conn: &mut Connection<S>,
+    db: &i64,
+    sequence: &i64,
+) -> Result<bool, CheckFault>
+    ensures { Inspects S.Store IsShaped conn.old conn.new (λ trees found. found ≡ list_any (is_at_sequence db.now sequence.now) (trees docs_tree)) result }
+{
+    let rows = sequence_rows(conn, db, sequence)?;
     Ok(is_any(&rows))
 }
 

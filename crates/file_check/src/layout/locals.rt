@@ -10,10 +10,13 @@ ghost use Rattle.file_check.specs.inner.Queries.{Judges};
 use crate::finding::{CheckFault, Wrong};
 use crate::layout::cells::{blob_at, count_at, text_at};
 use crate::layout::finding_rows::{find_length, whole_or_zero};
+use crate::layout::ids::is_id_of_local;
 use crate::layout::texts::is_body_text;
 use sqlite::{Alter, Connection, Row};
 use std::alloc::Global;
-use tree::is_document_id;
+
+/// The greatest number that a revision of a local document has.
+const GREATEST_NUMBER: u64 = 2_147_483_647;
 
 /// Tells what is wrong with the row of a local document by itself, if anything is.
 #[tactic(auto, using(crate::proofs::RowForms::local_forms))]
@@ -29,10 +32,10 @@ fn judge_row(alloc: Global, row: &Row) -> Result<Option<Wrong>, CheckFault>
     let Some(text) = text_at(row, 4) else {
         return Ok(Some(Wrong::Cell));
     };
-    if number >= 1 << 32 {
+    if number < 1 || number > GREATEST_NUMBER {
         return Ok(Some(Wrong::Cell));
     }
-    if !is_document_id(id) {
+    if !is_id_of_local(id) {
         return Ok(Some(Wrong::Name));
     }
     if !is_body_text(alloc, text)? {

@@ -4,8 +4,8 @@ ghost use Rattle.std.specs.Prelude.{◌≡◌, IsPermutation, filter, map, None,
 ghost use Rattle.tables.specs.Calls.{Reads};
 ghost use Rattle.tables.specs.Rows.{has_number, is_row_of_document, listed_document, shown_revision};
 ghost use Rattle.tables.specs.Schema.{dbs_tree, docs_tree, meta_tree, revs_tree};
-ghost use Rattle.file_check.specs.Tables.{IsShaped, tree_of};
-ghost use Rattle.file_check.specs.inner.Queries.{is_numbered, is_stored, shown_length, shown_numbered, shown_stored};
+ghost use Rattle.file_check.specs.Tables.{IsShaped, is_at_sequence, tree_of};
+ghost use Rattle.file_check.specs.inner.Queries.{is_numbered, is_stored, shown_length, shown_numbered, shown_sequence, shown_stored};
 ghost use Rattle.file_check.specs.inner.Statements.{behind_statement, first_statement};
 ghost use Rattle.file_check.specs.inner.Walks.{next_rows};
 
@@ -108,6 +108,22 @@ pub(crate) fn one_document_rows<S: Alter>(
         conn,
         "SELECT id, seq, winner, del FROM docs WHERE db = ?1 AND id = ?2",
         params![db, id],
+    )
+}
+
+/// Returns the sequences of the documents of a database that are at this one, in some order.
+pub(crate) fn sequence_rows<S: Alter>(
+    conn: &mut Connection<S>,
+    db: &i64,
+    sequence: &i64,
+) -> Result<Vec<Row>, Error>
+    ensures { Reads S.Store IsShaped conn.old conn.new
+        (λ trees rows. IsPermutation (map shown_sequence (filter (is_at_sequence db.now sequence.now) (trees docs_tree))) rows.items) result }
+{
+    query(
+        conn,
+        "SELECT seq FROM docs WHERE db = ?1 AND seq = ?2",
+        params![db, sequence],
     )
 }
 

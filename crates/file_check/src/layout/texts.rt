@@ -3,15 +3,16 @@
 ghost use Rattle.std.specs.Prelude.{◌≡◌, ◌≢◌, ◌↔◌, ◌≤◌, IfOk, IsTrue, MatchOption, ⊤};
 ghost use Rattle.couch_json.specs.Canonical.{canonical};
 ghost use Rattle.couch_json.specs.Lawful.{IsLawful};
-ghost use Rattle.couch_json.specs.View.{view};
+ghost use Rattle.couch_json.specs.View.{members_view, view};
 ghost use Rattle.policy.specs.Security.{is_security};
 ghost use Rattle.sqlite_value.specs.declared.value.Value.TheVariants.{Text};
 ghost use Rattle.store.specs.Lawful.{IsBody};
+ghost use Rattle.store.specs.SpecialMembers.{are_plain, is_plain, is_special};
 ghost use Rattle.tables.specs.Rows.{json_in_cell};
 ghost use Rattle.file_check.specs.inner.Texts.{IsBodyText, IsSecurityText};
 
 use crate::finding::CheckFault;
-use couch_json::{Json, JsonFault, canon};
+use couch_json::{Json, JsonFault, NameMap, canon};
 use policy::{Security, SecurityFault};
 use std::alloc::Global;
 
@@ -58,5 +59,32 @@ pub(crate) fn is_body_text(alloc: Global, text: &[u8]) -> Result<bool, CheckFaul
     let Some(value) = read_canonical(alloc, text)? else {
         return Ok(false);
     };
-    Ok(value.is_object() && value.nests_within(100))
+    Ok(value.is_object() && value.nests_within(100) && is_plain(&value))
+}
+
+/// Tells whether a body has no special members, those whose names begin with an underscore.
+fn is_plain(value: &Json) -> bool
+    ensures { result ≡ is_plain (view value.now) }
+{
+    match value {
+        Json::Object(members) => are_plain(members),
+        _ => true,
+    }
+}
+
+fn are_plain(members: &NameMap<Json>) -> bool
+    ensures { result ≡ are_plain (members_view members.now.entries) }
+{
+    for (name, _value) in members.as_slice() {
+        if is_special(name) {
+            return false;
+        }
+    }
+    true
+}
+
+fn is_special(name: &str) -> bool
+    ensures { result ≡ is_special name.now }
+{
+    name.as_bytes().starts_with(b"_")
 }

@@ -26,7 +26,7 @@ use Rattle.node.specs.declared.early_end.EarlyEnd.TheVariants.{Refused, Failed, 
 abbrev pub MatchesDefinition : {A B : Type 0} → (A → B) → Result A EarlyEnd → Result B Refusal → Type 0
 MatchesDefinition shown (Ok a) defined = defined ≡ Ok (shown a)
 MatchesDefinition shown (Err (Refused refusal)) defined = defined ≡ Err refusal
-MatchesDefinition shown (Err Failed) defined = ⊤
+MatchesDefinition shown (Err (Failed fault)) defined = ⊤
 MatchesDefinition shown (Err NoRoom) defined = ⊤
 
 -- a fact about the database of this name, where there is one

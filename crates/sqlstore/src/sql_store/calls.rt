@@ -158,4 +158,6 @@ impl<S: Alter + Drop> Store for SqlStore<S> {
     }
 
     ghost lawful = { λ s honest. ∥∥₁_elim (s.standing.held honest.0 honest.1) ∥∥₁_prop (λ h. h.store.laid.lawful) };
+
+    ghost ends = { λ s honest. ∥∥₁_elim (s.standing.held honest.0 honest.1) ∥∥₁_prop (λ h. h.ends) };
 }

@@ -15,7 +15,7 @@ impl<S: Alter> SqlStore<S> {
     ghost use Rattle.std.specs.Prelude.{◌≡◌, ◌≢◌, Err, IfErr, None, Some, OnErr, OnOk, is_some, option_map, true};
     ghost use Rattle.std.specs.FinMap as map;
     ghost use Rattle.store.specs.Contents.{new_database, with_local, with_security};
-    ghost use Rattle.store.specs.Lawful.{IsBody};
+    ghost use Rattle.store.specs.Lawful.{IsLocalDocument};
     ghost use Rattle.sqlstore.specs.inner.Causes.{IsJudged};
     ghost use Rattle.sqlstore.specs.inner.Commits.{IsUncommitted};
     ghost use Rattle.sqlstore.specs.inner.Reading.{HasNumber};
@@ -111,7 +111,7 @@ impl<S: Alter> SqlStore<S> {
         document: &LocalDocument,
     ) -> Result<(), StoreFault>
         requires there { is_honest S.Store self.old → HasNumber (trees_of S.Store self.old) name.now number.now }
-        requires body { is_honest S.Store self.old → IsBody document.now.body }
+        requires local { is_honest S.Store self.old → IsLocalDocument id.now document.now }
         ensures ok { is_honest S.Store self.new
             → OnOk result (option_map (λ db. map.insert (contents_of S.Store self.old) name.now (with_local db id.now document.now))
             (map.get (contents_of S.Store self.old) name.now) ≡ Some (contents_of S.Store self.new)) }

@@ -1,6 +1,6 @@
 -- What private clauses say of one event: a piece at a node, and the turn of a pass.
 -- This project's own.
-use Rattle.std.specs.Prelude.{◌≡◌, ◌<◌, ℕ, true, false, Bool, List, [], ◌∷◌, map, length, Some, slice_set}
+use Rattle.std.specs.Prelude.{◌≡◌, ◌<◌, ℕ, true, false, Bool, List, [], ◌∷◌, map, length, None, Some, slice_set}
 use Rattle.std.specs.List.{All, slice_get}
 use Rattle.couch_http.specs.Message.{Message}
 use Rattle.couch_http.specs.Reply.{Reply}
@@ -48,7 +48,7 @@ pub record IsTurn {S : Type 0} (g : Ghosts S) (old : List (Serving S)) (home : �
   pub node : Serving S
   pub there : slice_get old home ≡ Some node
   pub next : Serving S
-  pub fed : IsFed g (record { node = node; connections = before }) conn bytes list last (record { node = next; connections = after })
+  pub fed : IsFed g (record { node = node; connections = before; failures = None }) conn bytes list last (record { node = next; connections = after; failures = None })
   pub configuration : next.configuration ≡ node.configuration
   pub left : new ≡ slice_set old home next
 

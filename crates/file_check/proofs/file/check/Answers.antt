@@ -2,7 +2,7 @@ use Rattle.std.proofs.Common.{IfOk, Ok, OnOk, ap, inr, subst, ◌∙◌}
 use Rattle.sqlite.specs.Held.{state}
 use Rattle.file_check.specs.Checks.{IsSame}
 use Rattle.file_check.proofs.Stores.{IsStoreChecked}
-use Rattle.file_check.proofs.Verdicts.{index_named, index_refuted, indexed_store, rows_counted, same_all, same_indexes}
+use Rattle.file_check.proofs.Verdicts.{committed_store, index_named, index_refuted, rows_counted, same_all, same_indexes}
 use Rattle.file_check.proofs.file.check.Goals as goal
 
 pub returns-in-Some-2-clause-unsound : goal.returns-in-Some-2-clause-unsound
@@ -18,7 +18,7 @@ returns-in-Some-2-clause-names g c = λ clean has kept.
 
 pub returns-clause-sound : goal.returns-clause-sound
 returns-clause-sound g c clean kept =
-    indexed_store g.S.Store c.args.conn.now c.check_tables.new.conn c.check_tables.result (c.in_ok-finding.was ∙ ap Ok c.in_default.is) kept c.check_tables.ensures.live c.check_tables.ensures.ours
+    committed_store g.S.Store c.args.conn.now c.check_tables.new.conn c.check_tables.result (c.in_ok-finding.was ∙ ap Ok c.in_default.is) kept c.check_tables.ensures.live c.check_tables.ensures.ours
     (λ clean has. c.check_tables.ensures.sound clean has kept.tables) c.check_tables.ensures.served c.check_tables.ensures.stays
     c.check_indexes.new.conn c.check_indexes.result c.check_indexes.ensures c.count_rows.new.conn (c.in_ok-finding-2.was ∙ ap Ok c.in_default-2.is) c.in_ok-counts.counts c.in_ok-counts.ensures clean
 

@@ -41,6 +41,6 @@ returns-clause-plan g c = λ honest.
     (c.in_ok-terms.ensures.terms before) (there_is now (λ d is. ap as_outcome (if_there Outcome now d is judged)))
     (edit-named terms id c.args.query (view c.args.document))
     (λ d there. acceptable_in _ c.args.db.now d _ (g.met.S.Store.lawful c.args.store.now (c.in_ok-terms.ensures.reads.goes_on.honest before)) there
-    (edit_alone_acceptable (terms_in c.args.caller.now c.args.db.now d) d id c.args.query (view c.args.document)))
+    (λ lawful. edit_alone_acceptable (terms_in c.args.caller.now c.args.db.now d) d id c.args.query (view c.args.document) lawful c.requires))
     c.in_ok-plan_alone.ensures.writes c.in_ok-plan_alone.ensures.changed c.in_ok-plan_alone.ensures.may c.in_ok-plan_alone.ensures.results
     c.in_ok-label.ensures.id c.in_ok-label.ensures.rev

@@ -41,6 +41,6 @@ returns-clause-plan g c = λ honest.
     plan_there now id null (λ t h. index_outcome t id h name fields) terms (terms_in c.args.caller.now c.args.db.now) write (record { id = None; rev = None }) c.in_ok-plan_alone.field-0
     (c.in_ok-terms.ensures.terms before) judged (index-named terms id name fields)
     (λ d there. acceptable_in _ c.args.db.now d _ (g.met.S.Store.lawful c.args.store.now (c.in_ok-terms.ensures.reads.goes_on.honest before)) there
-    (index_alone_acceptable (terms_in c.args.caller.now c.args.db.now d) d id name fields))
+    (λ lawful. index_alone_acceptable (terms_in c.args.caller.now c.args.db.now d) d id name fields lawful c.requires))
     c.in_ok-plan_alone.ensures.writes c.in_ok-plan_alone.ensures.changed c.in_ok-plan_alone.ensures.may c.in_ok-plan_alone.ensures.results
     refl refl

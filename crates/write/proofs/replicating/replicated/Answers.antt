@@ -29,7 +29,7 @@ returns-clause-plan g c = λ honest.
     (c.in_ok-terms.ensures.terms before)
     (ap (λ (x : Contents). option_map (λ db. history_at db c.args.id.now) (finite.get x c.args.db.now)) (sym same) ∙ c.in_ok-history.ensures.answer honest)
     (c.in_ok-replica.ensures.ok c.in_ok-history.history ∙ c.in_ok-write.ensures.ok) (replicated-named c.in_ok-terms.terms c.args.id.now (view c.args.document))
-    (λ d there. replicated_alone_acceptable (terms_in c.args.caller.now c.args.db.now d) d c.args.id.now (view c.args.document))
+    (λ d there. replicated_alone_acceptable (terms_in c.args.caller.now c.args.db.now d) d c.args.id.now (view c.args.document) c.requires)
     c.in_ok-plan_alone.ensures.writes c.in_ok-plan_alone.ensures.changed c.in_ok-plan_alone.ensures.may c.in_ok-plan_alone.ensures.results
     c.in_ok-label.ensures.id c.in_ok-label.ensures.rev
 

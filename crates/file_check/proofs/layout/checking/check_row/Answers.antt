@@ -3,15 +3,14 @@ use Rattle.file_check.specs.Inspecting.{Goes}
 use Rattle.file_check.specs.Tables.{IsShaped, IsSoundRow}
 use Rattle.file_check.specs.inner.Queries.{HasCells, IsBefore, Judges}
 use Rattle.file_check.specs.declared.layout.checked.Checked.TheVariants.{Databases, Documents, Locals, Revisions}
-use Rattle.file_check.proofs.Going.{goes_map, goes_of, goes_pure}
-use Rattle.file_check.proofs.Owned.{judged_database}
+use Rattle.file_check.proofs.Going.{goes_map, goes_of}
 use Rattle.file_check.proofs.layout.checking.check_row.Goals as goal
 
 pub returns-in-Databases : goal.returns-in-Databases
 returns-in-Databases g c =
     let is : c.args.table ≡ Databases = search rules in
-    subst (λ t. Goes g.S.Store IsShaped c.args.conn.now c.args.conn.now (λ trees found. HasCells t c.args.row.now → IsBefore t trees → Judges (IsSoundRow t trees c.args.row.now) found) c.judge_database.result) (sym is)
-    (goes_pure c.args.conn.now _ c.judge_database.result (λ trees. judged_database c.args.row.now c.judge_database.result c.judge_database.ensures))
+    subst (λ t. Goes g.S.Store IsShaped c.args.conn.now c.check_database.new.conn (λ trees found. HasCells t c.args.row.now → IsBefore t trees → Judges (IsSoundRow t trees c.args.row.now) found) c.check_database.result) (sym is)
+    (goes_map _ c.check_database.result (λ trees found h cells before. h cells) (goes_of c.check_database.ensures))
 
 pub returns-in-Documents : goal.returns-in-Documents
 returns-in-Documents g c =

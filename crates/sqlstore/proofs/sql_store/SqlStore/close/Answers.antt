@@ -1,6 +1,6 @@
 use Rattle.sqlstore.proofs.Lemmas.{ap, contents_in, same_trees, subst, sym, ∥∥₁_map}
-use Rattle.sqlstore.proofs.Standing.{indexed_store}
-use Rattle.transactions.specs.Indexing.{IsIndexedStore}
+use Rattle.sqlstore.proofs.Standing.{committed_store}
+use Rattle.transactions.specs.Indexing.{IsCommittedStore}
 use Rattle.sqlstore.proofs.sql_store.SqlStore.close.Goals as goal
 
 pub returns-clause-contents : goal.returns-clause-contents
@@ -11,4 +11,4 @@ returns-clause-contents g c honest up =
 pub returns-clause-laid : goal.returns-clause-laid
 returns-clause-laid g c honest up =
     let s = c.args.self in
-    ∥∥₁_map (s.standing.held honest.0 honest.1) (λ h. subst IsIndexedStore (sym (h.now up)) (indexed_store h))
+    ∥∥₁_map (s.standing.held honest.0 honest.1) (λ h. subst IsCommittedStore (sym (h.now up)) (committed_store h))

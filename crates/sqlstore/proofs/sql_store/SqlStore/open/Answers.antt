@@ -6,7 +6,10 @@ use Rattle.std.specs.Prelude.{◌≢◌}
 use Rattle.tables.specs.Layout.{IsFirstStore}
 use Rattle.tables.specs.Presence.{version_in}
 use Rattle.tables.specs.declared.meta.FileVersion.TheVariants.{First, Other}
-use Rattle.transactions.specs.Indexing.{IsIndexedStore}
+use Rattle.store.specs.Contents.{Contents}
+use Rattle.store.specs.Lawful.{AllEndAtLast, EndsAtLast}
+use Rattle.store.proofs.Lawfuls.{all_none}
+use Rattle.transactions.specs.Indexing.{IsCommittedStore}
 use Rattle.transactions.specs.Renewing.{IsCarriedOver}
 use Rattle.sqlstore.specs.Standing.{AreKnown}
 use Rattle.sqlstore.specs.Opening.{FailsToRead, IsForeign, version_of}
@@ -31,8 +34,9 @@ invariant_of-result g c =
         idle = turns.idle;
         unlimited = turns.limit ∙ ap (λ (h : Held g.row.S.Denot). h.step_limit) c.set_step_limit.ensures;
         held = λ clean was. ∥∥₁_map was (λ store. record {
-          store = subst (λ h. IsStore (now h)) (c.of-origin.ensures ∙ sym c.of-last.ensures) store.store;
-          indexed = subst (λ h. IsIndexed (now h).trees) (c.of-origin.ensures ∙ sym c.of-last.ensures) store.indexed;
+          store = subst (λ h. IsStore (now h)) (c.of-origin.ensures ∙ sym c.of-last.ensures) store.rows.store;
+          indexed = subst (λ h. IsIndexed (now h).trees) (c.of-origin.ensures ∙ sym c.of-last.ensures) store.rows.indexed;
+          ends = subst (λ h. ∥ AllEndAtLast (contents_in (now h).trees) ∥₁) (c.of-origin.ensures ∙ sym c.of-last.ensures) store.ends;
           now = λ up. ap now (sym c.of-last.ensures);
           committed = λ up. sym (c.is_autocommit-2.ensures.settled settled up) ∙ ap now (sym c.of-last.ensures);
         });
@@ -45,8 +49,8 @@ pub returns-clause-found : goal.returns-clause-found
 returns-clause-found g c clean store =
     let now : Held g.row.S.Denot → Database = λ h. (state g.S.Store h).now in
     let began = ap now c.set_step_limit.ensures in
-    let same : now c.find_tables.new.conn ≡ now c.args.conn = c.in_default.ensures.found clean (subst IsStore (sym began) store.store) ∙ began in
-    ((clean, ∣ subst IsIndexedStore (sym (ap now c.of-origin.ensures ∙ same)) store ∣₁), ap (λ (d : Database). contents_in d.trees) (ap now c.of-last.ensures ∙ same))
+    let same : now c.find_tables.new.conn ≡ now c.args.conn = c.in_default.ensures.found clean (subst IsStore (sym began) store.rows.store) ∙ began in
+    ((clean, ∣ subst IsCommittedStore (sym (ap now c.of-origin.ensures ∙ same)) store ∣₁), ap (λ (d : Database). contents_in d.trees) (ap now c.of-last.ensures ∙ same))
 
 pub returns-clause-carried : goal.returns-clause-carried
 returns-clause-carried g c clean first =
@@ -54,13 +58,16 @@ returns-clause-carried g c clean first =
     let began = ap now c.set_step_limit.ensures in
     let made : IsCarriedOver (now c.args.conn) (now c.find_tables.new.conn) =
     subst (λ d. IsFirstStore d → IsCarriedOver d (now c.find_tables.new.conn)) began (c.in_default.ensures.carried clean) first in
-    ((clean, ∣ subst IsIndexedStore (sym (ap now c.of-origin.ensures)) made.indexed ∣₁), ap (λ h. contents_in (now h).trees) c.of-last.ensures ∙ made.contents)
+    let ends = subst (λ (x : Contents). ∥ AllEndAtLast x ∥₁) (sym made.contents) first.ends in
+    ((clean, ∣ subst IsCommittedStore (sym (ap now c.of-origin.ensures)) (record { rows = made.indexed; ends = ends }) ∣₁), ap (λ h. contents_in (now h).trees) c.of-last.ensures ∙ made.contents)
 
 pub returns-clause-made : goal.returns-clause-made
 returns-clause-made g c clean none =
     let now : Held g.row.S.Denot → Database = λ h. (state g.S.Store h).now in
     let made = c.in_default.ensures.made clean (ap (λ (h : Held g.row.S.Denot). h.schema) c.set_step_limit.ensures ∙ none) in
-    ((clean, ∣ subst IsIndexedStore (sym (ap now c.of-origin.ensures)) (record { store = holds (now c.find_tables.new.conn) made; indexed = new_indexed (now c.find_tables.new.conn) made }) ∣₁), ap (λ h. contents_in (now h).trees) c.of-last.ensures ∙ nothing (now c.find_tables.new.conn) made)
+    let rows = record { store = holds (now c.find_tables.new.conn) made; indexed = new_indexed (now c.find_tables.new.conn) made } in
+    let ends = subst (λ (x : Contents). ∥ AllEndAtLast x ∥₁) (sym (nothing (now c.find_tables.new.conn) made)) ∣ all_none EndsAtLast ∣₁ in
+    ((clean, ∣ subst IsCommittedStore (sym (ap now c.of-origin.ensures)) (record { rows = rows; ends = ends }) ∣₁), ap (λ h. contents_in (now h).trees) c.of-last.ensures ∙ nothing (now c.find_tables.new.conn) made)
 
 pub returns-clause-all : goal.returns-clause-all
 returns-clause-all g c = subst (λ (h : Held g.row.S.Denot). has_any h.schema ≡ true → has_all h.schema ≡ true) c.set_step_limit.ensures c.in_default.ensures.all

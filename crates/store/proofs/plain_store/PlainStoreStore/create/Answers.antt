@@ -2,9 +2,10 @@ use Rattle.std.proofs.Common.{◌≡◌, true, is_some, sym, subst, rules}
 use Rattle.policy.specs.Security.{closed_security}
 use Rattle.std.specs.FinMap as map
 use Rattle.store.specs.Contents.{new_database}
-use Rattle.store.specs.Lawful.{AreLawful}
+use Rattle.store.specs.Lawful.{AllEndAtLast, AreLawful, EndsAtLast, IsLawfulDatabase}
 use Rattle.store.specs.Plain.{contents_of}
-use Rattle.store.proofs.Lawfuls.{lawful_after, lawful_empty, lawful_insert}
+use Rattle.store.proofs.Lasts.{ends_empty}
+use Rattle.store.proofs.Lawfuls.{all_after, all_insert, lawful_empty, lawful_insert}
 use Rattle.store.proofs.Plains.{there}
 use Rattle.store.proofs.plain_store.PlainStoreStore.create.Goals as goal
 
@@ -19,6 +20,8 @@ invariant_of-self c =
     let name = c.args.name.now in
     let new = contents_of c.add.new.databases.items in
     record {
-      lawful = lawful_after c.add.result old new (contents_of c.add.new.databases.items ≡ map.insert (contents_of c.args.self.now.databases.items) c.args.name.now new_database) c.add.ensures.ok c.add.ensures.err
+      lawful = all_after IsLawfulDatabase c.add.result old new (contents_of c.add.new.databases.items ≡ map.insert (contents_of c.args.self.now.databases.items) c.args.name.now new_database) c.add.ensures.ok c.add.ensures.err
           (λ made h. subst AreLawful (sym made) (lawful_insert old name new_database h (lawful_empty closed_security))) c.args.self.now.lawful;
+      ends = all_after EndsAtLast c.add.result old new (contents_of c.add.new.databases.items ≡ map.insert (contents_of c.args.self.now.databases.items) c.args.name.now new_database) c.add.ensures.ok c.add.ensures.err
+          (λ made h. subst AllEndAtLast (sym made) (all_insert EndsAtLast old name new_database h (ends_empty closed_security))) c.args.self.now.ends;
     }

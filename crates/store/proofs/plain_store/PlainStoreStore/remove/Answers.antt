@@ -1,8 +1,8 @@
 use Rattle.std.proofs.Common.{◌≡◌, true, is_some, sym, subst, rules}
 use Rattle.std.proofs.Math.Logic.{∥∥₁_map}
-use Rattle.store.specs.Lawful.{AreLawful}
+use Rattle.store.specs.Lawful.{AllEndAtLast, AreLawful, EndsAtLast}
 use Rattle.store.specs.Plain.{contents_of}
-use Rattle.store.proofs.Lawfuls.{lawful_remove}
+use Rattle.store.proofs.Lawfuls.{all_remove, lawful_remove}
 use Rattle.store.proofs.Plains.{there}
 use Rattle.store.proofs.plain_store.PlainStoreStore.remove.Goals as goal
 
@@ -13,4 +13,9 @@ returns-clause-there c =
 
 pub invariant_of-self : goal.invariant_of-self
 invariant_of-self c =
-    record { lawful = ∥∥₁_map c.args.self.now.lawful (λ h. subst AreLawful (sym c.remove.ensures) (lawful_remove (contents_of c.args.self.now.databases.items) c.args.name.now h)) }
+    let old = contents_of c.args.self.now.databases.items in
+    let name = c.args.name.now in
+    record {
+      lawful = ∥∥₁_map c.args.self.now.lawful (λ h. subst AreLawful (sym c.remove.ensures) (lawful_remove old name h));
+      ends = ∥∥₁_map c.args.self.now.ends (λ h. subst AllEndAtLast (sym c.remove.ensures) (all_remove EndsAtLast old name h));
+    }

@@ -4,7 +4,7 @@ use Rattle.node.specs.Answer.{answer}
 use Rattle.node.specs.Causes.{IsFailure}
 use Rattle.node.specs.Step.{Serving}
 use Rattle.node.proofs.Faults.{failure}
-use Rattle.node.proofs.node.Node.handle.Goals as goal
+use Rattle.node.proofs.node.Node.handle_with_cause.Goals as goal
 
 pub returns-clause-failure : goal.returns-clause-failure
 returns-clause-failure g c is =

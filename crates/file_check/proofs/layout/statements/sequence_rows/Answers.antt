@@ -1,0 +1,8 @@
+use Rattle.file_check.proofs.Statements.{finds_sequence, sequence_is}
+use Rattle.tables.proofs.Lemmas.{reads_of, rules}
+use Rattle.file_check.proofs.layout.statements.sequence_rows.Goals as goal
+
+pub returns : goal.returns
+returns g c =
+    reads_of g.S.Store _ _ sequence_is _ (λ fit. finds_sequence _ _ fit c.args.db.now c.args.sequence.now c.query.result (λ rows. rows.items))
+    c.query.ensures.ok (search rules) c.query.ensures.served c.query.ensures.stands c.query.ensures.looks c.query.ensures.asks

@@ -1,0 +1,45 @@
+-- What a log is told of requests, one after another.
+use Rattle.std.proofs.Common.{◌≡◌, ◌≢◌, ◌∙◌, ◌==◌, ℕ, ◌+◌, ◌<◌, Bool, true, false, List, [], ◌∷◌, ◌++◌, get_or, length, map, take, refl, sym, ap, subst, arith, append_assoc, append-nil, Option, None, Some}
+use Rattle.std.proofs.lemmas.Bool.{ne_eqb}
+use Rattle.std.proofs.lemmas.List.{length-map, length-take-le, map_more}
+use Rattle.couch_http.specs.Message.{Message, message_of}
+use Rattle.couch_http.specs.Reply.{Reply}
+use Rattle.couch_http.specs.declared.request.Request.{Request}
+use Rattle.hub.specs.Failing.{FailedRequest, Tells, failed_request, failure_at, failures_in}
+
+pub tells_none : (a : Option (List FailedRequest)) → Tells a a []
+tells_none None = tt
+tells_none (Some told) = sym (append-nil told)
+
+tells_then : (a b c : Option (List FailedRequest)) (xs ys : List FailedRequest) → Tells a b xs → Tells b c ys → Tells a c (xs ++ ys)
+tells_then None b c xs ys p q = tt
+tells_then (Some first) None c xs ys p q = absurd p
+tells_then (Some first) (Some next) None xs ys p q = absurd q
+tells_then (Some first) (Some next) (Some last) xs ys p q = q ∙ ap (λ (l : List FailedRequest). l ++ ys) p ∙ append_assoc first xs ys
+
+-- a reply of 500 is told of
+pub told_failure : (a b : Option (List FailedRequest)) (m : Message) (r : Reply) → r.status ≡ 500 → Tells a b (failed_request m ∷ []) → Tells a b (failure_at m r)
+told_failure a b m r is tells = rw is tells
+
+-- and another one is not
+pub told_nothing : (a b : Option (List FailedRequest)) (m : Message) (r : Reply) → r.status ≢ 500 → b ≡ a → Tells a b (failure_at m r)
+told_nothing a b m r not same = rw (ne_eqb r.status 500 not, same) (tells_none a)
+
+failures_push : (ms : List Message) (rs : List Reply) (m : Message) (r : Reply) → length ms ≡ length rs → failures_in (ms ++ m ∷ []) (rs ++ r ∷ []) ≡ failures_in ms rs ++ failure_at m r
+failures_push [] [] m r same = append-nil (failure_at m r)
+failures_push [] (s ∷ ss) m r same = absurd cc
+failures_push (n ∷ ns) [] m r same = absurd cc
+failures_push (n ∷ ns) (s ∷ ss) m r same =
+    ap (λ (fs : List FailedRequest). failure_at n s ++ fs) (failures_push ns ss m r (omega (arith, same))) ∙ sym (append_assoc (failure_at n s) (failures_in ns ss) (failure_at m r))
+
+-- the next request of a list has its reply
+pub tells_more : (a b c : Option (List FailedRequest)) (requests : List Request) (i : ℕ) (q : Request) → i < length requests → q ≡ get_or requests i q → (rs : List Reply) (r : Reply)
+    → length rs ≡ i → Tells a b (failures_in (map message_of (take i requests)) rs) → Tells b c (failure_at (message_of q) r)
+    → Tells a c (failures_in (map message_of (take (i + 1) requests)) (rs ++ r ∷ []))
+tells_more a b c requests i q inside at rs r count tells next =
+    let ms : List Message = map message_of (take i requests) in
+    let items : map message_of (take (i + 1) requests) ≡ ms ++ message_of q ∷ [] =
+    map_more message_of requests i q inside ∙ ap (λ (x : Request). map message_of (take i requests) ++ message_of x ∷ []) (sym at) in
+    let same : length ms ≡ length rs = length-map (take i requests) message_of ∙ length-take-le i requests (omega (arith, inside)) ∙ sym count in
+    subst (λ (l : List Message). Tells a c (failures_in l (rs ++ r ∷ []))) (sym items)
+    (subst (λ (l : List FailedRequest). Tells a c l) (sym (failures_push ms rs (message_of q) r same)) (tells_then a b c (failures_in ms rs) (failure_at (message_of q) r) tells next))
