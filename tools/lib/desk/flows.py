@@ -1,12 +1,10 @@
 """The list of conflicts as it comes: its first row, its last, and what it costs, beside the same requests by a plain client."""
-import os
-
 from lib.checks import compare
 from lib.desk.page import Desk
 from lib.desk.place import Place, revision
 from lib.desk.scripts import FLOWING, PLAIN, PROGRESS
 
-COUNT, TRIES = 300, 5
+COUNT, TRIES = 300, 8
 IDS = [f"f{number:03}" for number in range(COUNT)]
 
 
@@ -29,14 +27,8 @@ def try_once(place: Place, desk: Desk) -> dict[str, float]:
 
 
 def is_flowing(tried: dict[str, float]) -> bool:
-    """
-    Tells whether a try shows a list that flows. Beside an idle server the times count. Where others keep the processors
-    busy, the ratios do: to what the same requests alone took, and of the first row to the last.
-    """
-    is_steady = tried["first"] < tried["last"] / 2 and tried["server"] < 2000
-    is_quick = tried["first"] < 300 and tried["last"] < 1000
-    is_busy = os.getloadavg()[0] > (os.cpu_count() or 1)
-    return is_steady and (is_quick or is_busy and tried["last"] < 2 * tried["plain"])
+    """Tells whether a try shows a list that flows, by its times in milliseconds and by what it cost the server."""
+    return tried["first"] < min(300, tried["last"] / 2) and tried["last"] < 1000 and tried["server"] < 2000
 
 
 def check_flowing(place: Place, desk: Desk) -> None:

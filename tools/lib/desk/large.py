@@ -1,16 +1,15 @@
-"""Documents of 1 MB: each view of one within five seconds of work, or a sign of what it waits for."""
+"""Documents of 1 MB: each view of one within five seconds, or a sign of what it waits for."""
 import json
-import os
 from typing import Any
 
 from lib.checks import compare
-from lib.desk.long_lists import shown_within
+from lib.desk.long_lists import TRIES, shown_within
 from lib.desk.page import Desk
 from lib.desk.place import Place, revision
 from lib.desk.scripts import SETTLED_VIEW
 
-# In milliseconds: how long a view may take, and on a busy machine how much of a processor.
-BOUND, OF_PROCESSOR = 5000, 2500
+# In milliseconds: how long a view may take.
+BOUND = 5000
 # What OPERATE says of how many lines are shown first, and the brackets around them.
 MOST_LINES = 2002
 # A line of a difference is cut behind 10,000 characters.
@@ -38,8 +37,8 @@ def check_large(place: Place, desk: Desk) -> None:
         compare(f"large: {name} has nearly 1 MB", True, 800_000 < size < 1_000_000)
         place.push("large", {"_id": name, **revision("a1", **body)})
         path = [f"/large/{name}?open_revs=all"]
-        shown_within(BOUND, OF_PROCESSOR, desk, f"{name} of 1 MB", ["large", "document", name], "#view h3", "winner", path)
-        shown_within(BOUND, OF_PROCESSOR, desk, f"{name} of 1 MB to be edited", ["large", "edit", name], "#view h2", "Edit", path)
+        shown_within(BOUND, desk, f"{name} of 1 MB", ["large", "document", name], "#view h3", "winner", path)
+        shown_within(BOUND, desk, f"{name} of 1 MB to be edited", ["large", "edit", name], "#view h2", "Edit", path)
         length, lines = desk.run("const text = document.querySelector('textarea').value; return [text.length, text.split('\\n').length]")
         compare(f"large: {name} is whole in the editor, in few lines", (True, True), (length >= size * 0.99, lines <= MOST_LINES))
     desk.go("large", "document", "objects")
@@ -56,18 +55,26 @@ def check_large_settled(place: Place, desk: Desk) -> None:
         leaves = [revision(f"{tag}2", "r1", **versions[tag][name]) for tag in "ab"]
         place.push("large", {"_id": f"two-{name}", **revision("r1", **versions["r"][name])})
         place.push("large", *[{"_id": f"two-{name}", **leaf} for leaf in leaves])
-        desk.go("large", "settle", f"two-{name}", css="#told", text="was not fetched")
-        before = desk.processor_time()
-        took = desk.run(SETTLED_VIEW)
-        spent = (desk.processor_time() - before) * 1000
-        is_busy = os.getloadavg()[0] > (os.cpu_count() or 1)
-        desk.times.append(f"two versions of {name}: {took:.0f} ms, {spent:.0f} of the processor")
+        took = settled_within(desk, name)
         longest = desk.run("return Math.max(...[...document.querySelectorAll('pre span')].map(one => one.textContent.length))")
         compare(f"large: no line of a difference of {name} is long", True, longest < LONGEST_LINE)
-        compare(f"large: two versions of {name}", True, took < 2 * BOUND or is_busy and spent < 2 * OF_PROCESSOR or desk.times[-1])
+        compare(f"large: two versions of {name}", True, took < 2 * BOUND or desk.times[-1])
     desk.press_button("Settle")
     desk.find("h2", "Settled")
     compare("large: what lives", 1, len(place.living("large", "two-deep")))
+
+
+def settled_within(desk: Desk, name: str) -> float:
+    """Has two versions fetched and compared, and returns how many milliseconds that took."""
+    for _ in range(TRIES):
+        desk.go()
+        desk.go("large", "settle", f"two-{name}", css="#told", text="was not fetched")
+        before = desk.processor_time()
+        took: float = desk.run(SETTLED_VIEW)
+        desk.times.append(f"two versions of {name}: {took:.0f} ms, {(desk.processor_time() - before) * 1000:.0f} of the processor")
+        if took < 2 * BOUND:
+            break
+    return took
 
 
 CHECKS = [check_large, check_large_settled]
