@@ -9,7 +9,7 @@ use Rattle.tables.specs.declared.meta.FileVersion.TheVariants.{First, Other}
 use Rattle.store.specs.Contents.{Contents}
 use Rattle.store.specs.Lawful.{AllEndAtLast, EndsAtLast}
 use Rattle.store.proofs.Lawfuls.{all_none}
-use Rattle.transactions.specs.Indexing.{IsCommittedStore}
+use Rattle.transactions.specs.Indexing.{IsCommittedStore, IsIndexedStore}
 use Rattle.transactions.specs.Renewing.{IsCarriedOver}
 use Rattle.sqlstore.specs.Standing.{AreKnown}
 use Rattle.sqlstore.specs.Opening.{FailsToRead, IsForeign, version_of}
@@ -65,7 +65,7 @@ pub returns-clause-made : goal.returns-clause-made
 returns-clause-made g c clean none =
     let now : Held g.row.S.Denot → Database = λ h. (state g.S.Store h).now in
     let made = c.in_default.ensures.made clean (ap (λ (h : Held g.row.S.Denot). h.schema) c.set_step_limit.ensures ∙ none) in
-    let rows = record { store = holds (now c.find_tables.new.conn) made; indexed = new_indexed (now c.find_tables.new.conn) made } in
+    let rows : IsIndexedStore (now c.find_tables.new.conn) = record { store = holds (now c.find_tables.new.conn) made; indexed = new_indexed (now c.find_tables.new.conn) made } in
     let ends = subst (λ (x : Contents). ∥ AllEndAtLast x ∥₁) (sym (nothing (now c.find_tables.new.conn) made)) ∣ all_none EndsAtLast ∣₁ in
     ((clean, ∣ subst IsCommittedStore (sym (ap now c.of-origin.ensures)) (record { rows = rows; ends = ends }) ∣₁), ap (λ h. contents_in (now h).trees) c.of-last.ensures ∙ nothing (now c.find_tables.new.conn) made)
 
