@@ -15,11 +15,13 @@ use Rattle.store.specs.Calls.{GoesOn}
 use Rattle.store.specs.declared.store.Store.{Ghosts}
 use Rattle.couch_http.specs.Writing.{Takes}
 use Rattle.hub.proofs.Arrivals.{ended_next, rest_same}
+use Rattle.hub.proofs.Failures.{failures_append, tells_then}
 use Rattle.hub.proofs.ServiceLemmas.{open_after, piece_served}
 use Rattle.hub.proofs.Serving.{serves_then}
 use Rattle.hub.specs.Answering.{RepliesInOrder}
 use Rattle.hub.specs.Connections.{ConnectionTable, is_open, rest_on, with_rest}
 use Rattle.hub.specs.Endings.{is_last, last_replies, rest_of}
+use Rattle.hub.specs.Failing.{FailedRequest, Tells, failures_in}
 use Rattle.hub.specs.Feeding.{HubState, IsFed}
 use Rattle.hub.specs.Parts.{ServesPart}
 use Rattle.hub.specs.Service.{IsServed, bytes_of, end_after_farewell, end_after_replies, farewell, greatest_piece}
@@ -76,6 +78,9 @@ module _ {S : Type 0} (g : Ghosts S) (old mid new : HubState S) (conn : ℕ) whe
                 (subst (λ (c : Configuration). RepliesInOrder g c mid.node.store b.messages b.answers new.node.store) same (b.serves h));
             left = b.left ∙ ap (λ (t : ConnectionTable). with_rest t conn (rest_of b.end)) kept ∙ rest_over old.connections conn r (rest_of b.end);
             ends = b.ends;
+            each = omega (arith, a.each, b.each, length-append a.answers b.answers, length-append a.messages b.messages);
+            tells = subst (λ (fs : List FailedRequest). Tells old.failures new.failures fs) (sym (failures_append a.messages b.messages a.answers b.answers a.each))
+                (tells_then old.failures mid.failures new.failures (failures_in a.messages a.answers) (failures_in b.messages b.answers) a.tells b.tells);
           }
       by ended is = absurd (true≢false (sym (a.ends ∙ ap is_last is)))
       by (faulty f) is = absurd (true≢false (sym (a.ends ∙ ap is_last is)))
@@ -93,6 +98,8 @@ fed_over g old new conn p more list f = record {
   serves = f.serves;
   left = f.left;
   ends = f.ends;
+  each = f.each;
+  tells = f.tells;
 }
 
 takes_then : (a b c : Option (List ℕ)) (xs ys : List ℕ) (whole : Bool) → Takes a b xs true → Takes b c ys whole → Takes a c (xs ++ ys) whole

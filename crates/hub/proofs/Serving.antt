@@ -121,9 +121,9 @@ last_is (Fault g) (faulty f) is false on off = absurd (let e = off refl in cc)
 pub fed : {S : Type 0} (g : Ghosts S) (before after : Serving S) (old new : ConnectionTable) (conn : ℕ) (piece : List ℕ) (cut : Cut) (answers list : List Reply) (last : Bool) (told now : Option (List FailedRequest))
     → IsCut old conn piece cut new → (g.is_honest after.store → RepliesInOrder g before.configuration before.store (cutting.messages_of cut) answers after.store)
     → list ≡ answers ++ refusal_at cut.ending → (last ≡ true → cut.ending ≢ Open) → (last ≡ false → cut.ending ≡ Open)
-    → Tells told now (failures_in (cutting.messages_of cut) answers)
+    → length answers ≡ length (cutting.messages_of cut) → Tells told now (failures_in (cutting.messages_of cut) answers)
     → IsFed g (record { node = before; connections = old; failures = told }) conn piece list last (record { node = after; connections = new; failures = now })
-fed g before after old new conn piece cut answers list last told now t serves added on off tells =
+fed g before after old new conn piece cut answers list last told now t serves added on off each tells =
     record {
       rest = t.rest;
       was = t.was;
@@ -135,5 +135,6 @@ fed g before after old new conn piece cut answers list last told now t serves ad
       serves = serves;
       left = t.left;
       ends = last_is cut.ending t.end t.ending last on off;
+      each = each;
       tells = tells;
     }

@@ -30,6 +30,7 @@ pub fn answer_all<S: Store + Drop, L: FailureLog>(
     ensures configuration { node.new.configuration ≡ node.old.configuration }
     ensures onward { GoesOn S.Store node.old.store node.new.store }
     ensures room { vec_len list.new < vec_capacity list.new }
+    ensures each { length list.new.items ≡ length (map message_of requests.now) }
     ensures tells { Tells (L.told log.old) (L.told log.new) (failures_in (map message_of requests.now) list.new.items) }
 {
     for request in requests {

@@ -1,6 +1,6 @@
-use Rattle.std.proofs.Common.{◌∙◌, ◌∷◌, [], arith, length-append}
+use Rattle.std.proofs.Common.{◌∙◌, arith}
 use Rattle.store.proofs.Calls.{goes_on_then}
-use Rattle.hub.proofs.Failures.{tells_more}
+use Rattle.hub.proofs.Failures.{each_more, tells_more}
 use Rattle.hub.proofs.Serving.{serves_more}
 use Rattle.hub.proofs.answering.answer_all.Goals as goal
 
@@ -13,8 +13,9 @@ loop-request-preserved g c = record {
   onward = goes_on_then g.S.Store c.args.node.now.store c.loop-request.node.store c.answer.new.node.store c.loop-request.invariant.onward c.answer.ensures.onward;
   tells = rw c.push_reserved.ensures.items (tells_more (g.L.FailureLog.told c.args.log.now) (g.L.FailureLog.told c.loop-request.log) (g.L.FailureLog.told c.answer.new.log)
       c.args.requests.now c.loop-request.request-index c.request-item.result c.loop-request-test.true c.request-item.is c.loop-request.list.items c.answer.result
-      c.loop-request.invariant.count c.loop-request.invariant.tells c.answer.ensures.tells);
-  count = omega (arith, c.loop-request.invariant.count, length-append c.loop-request.list.items (c.answer.result ∷ []));
+      c.loop-request.invariant.each c.loop-request.invariant.tells c.answer.ensures.tells);
+  each = rw c.push_reserved.ensures.items (each_more c.args.requests.now c.loop-request.request-index c.request-item.result c.loop-request-test.true c.request-item.is c.loop-request.list.items c.answer.result
+      c.loop-request.invariant.each);
   len = omega arith;
   capacity = c.push_reserved.ensures.capacity ∙ c.loop-request.invariant.capacity;
 }

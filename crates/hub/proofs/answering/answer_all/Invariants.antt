@@ -11,7 +11,7 @@ invariant-loop-request g l = record {
   configuration : l.node.configuration ≡ l.initial.node.configuration;
   onward : GoesOn g.S.Store l.initial.node.store l.node.store;
   tells : Tells (g.L.FailureLog.told l.initial.log) (g.L.FailureLog.told l.log) (failures_in (map message_of (take l.request-index l.requests)) l.list.items);
-  count : length l.list.items ≡ l.request-index;
+  each : length l.list.items ≡ length (map message_of (take l.request-index l.requests));
   len : vec_len l.list ≡ vec_len l.initial.list + l.request-index;
   capacity : vec_capacity l.list ≡ vec_capacity l.initial.list;
 }
