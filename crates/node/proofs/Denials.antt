@@ -11,7 +11,7 @@ use Rattle.couch_json.specs.declared.fault.JsonFault.{JsonFault}
 use Rattle.policy.specs.Security.{closed_security}
 use Rattle.policy.specs.Verdict.{verdict}
 use Rattle.policy.specs.declared.action.Action.{Action}
-use Rattle.policy.specs.declared.action.Action.TheVariants.{Administer, Read, WriteDesign, WriteSecurity, WriteDocument}
+use Rattle.policy.specs.declared.action.Action.TheVariants.{Administer, Read, WriteSecurity, WriteDocument}
 use Rattle.policy.specs.declared.rule.Rule.{Rule}
 use Rattle.policy.specs.declared.rule.Rule.TheVariants.{ProxyToken}
 use Rattle.read.specs.declared.fault.ReadFault.{ReadFault}
@@ -20,7 +20,6 @@ use Rattle.read.specs.Local.{local_document}
 use Rattle.store.specs.Contents.{Contents, local_at}
 use Rattle.store.specs.Database.{Database, DocumentWrite, history_at}
 use Rattle.store.specs.declared.local_document.LocalDocument.{LocalDocument}
-use Rattle.tree.specs.DocumentId.{is_design_id}
 use Rattle.tree.specs.Revision.{Revision}
 use Rattle.write.specs.Admission.{admission, given, unnamed_deletion}
 use Rattle.write.specs.Bulk.{DocumentOutcome}
