@@ -1,8 +1,8 @@
 -- What the words of a command line ask for.
 -- How words are read is clap's, as the kit's definitions of it say; the commands, their words and the range of their numbers are this project's own.
-use Rattle.std.specs.Prelude.{ℕ, ◌==◌, Bool, true, false, not, ◌&&◌, ◌||◌, nat_le, nat_lt, length, List, [], ◌∷◌, map, codes, Option, Some, None, option_map, option_and_then, unwrap_or, bytes_eq, string_bytes, if◌then◌else◌}
+use Rattle.std.specs.Prelude.{ℕ, ◌==◌, Bool, true, false, not, ◌&&◌, ◌||◌, nat_le, nat_lt, length, List, [], ◌∷◌, map, codes, Option, Some, None, option_map, option_and_then, unwrap_or, bytes_eq, is_some, string_bytes, if◌then◌else◌}
 use Rattle.std.specs.Char.{is_ascii_digit}
-use Rattle.std.specs.List.{list_all}
+use Rattle.std.specs.List.{after_first, before_first, list_all}
 use Rattle.std.specs.Str.Parse.{digits_value}
 use Rattle.clap.specs.declared.builder.ArgAction.TheVariants.{Set, Append, SetTrue}
 use Rattle.clap.specs.Words.{App, Kinds, Row, Rule, Shape, Text, all_of, fault_of, first_of, new_app, new_rule, subcommand_of, with_rule, with_subcommand}
@@ -57,11 +57,15 @@ abbrev pub sync_sides : App
 sync_sides = with_rule (with_rule (with_rule (with_rule sync_options
     (optional_option (codes "from"))) (optional_option (codes "from-address"))) (optional_option (codes "to"))) (optional_option (codes "address"))
 
--- `sync --secret S --session T [--from F | --from-address B] --db D [--to G | --address A] --target-db E [--user U] [--create] [--cache MB] [ADMIN]...`,
--- where the order plays no part
+-- the words of `sync` up to those that say how its pass is made
+abbrev pub sync_words : App
+sync_words = with_rule (with_rule (with_rule sync_sides (optional_option (codes "user"))) (flag (codes "create"))) (optional_option (codes "cache"))
+
+-- `sync --secret S --session T [--from F | --from-address B] --db D [--to G | --address A] --target-db E [--user U] [--create] [--cache MB] [--from-start]
+-- [--batch N] [--patience S] [--log] [ADMIN]...`, where the order plays no part
 abbrev pub sync_command : Shape
-sync_command = (with_rule (with_rule (with_rule (with_rule sync_sides
-    (optional_option (codes "user"))) (flag (codes "create"))) (optional_option (codes "cache"))) admin_rule).top
+sync_command = (with_rule (with_rule (with_rule (with_rule (with_rule sync_words
+    (flag (codes "from-start"))) (optional_option (codes "batch"))) (optional_option (codes "patience"))) (flag (codes "log"))) admin_rule).top
 
 -- `check --file F [--cache MB]`
 abbrev pub check_command : Shape
@@ -111,6 +115,14 @@ at_once_in = number_or 1 1000
 abbrev pub cache_in : Option Text → Option ℕ
 cache_in = number_or 64 4096
 
+-- how many changes a pass lists at a time at first: 500, where that isn't said
+abbrev pub batch_in : Option Text → Option ℕ
+batch_in = number_or 500 1000
+
+-- for how many seconds a pass waits for a reply: 120, where that isn't said
+abbrev pub patience_in : Option Text → Option ℕ
+patience_in = number_or 120 86400
+
 -- ---- what is asked
 
 -- what a server is to be: its secret and its admins, the path of its file, its port, after how many connections it ends, how many are open at once, and how many
@@ -130,7 +142,8 @@ pub data SideAsked : Type 0 where
   address_asked : Text → SideAsked
 
 -- what is to be copied: the secret and the admins of the nodes, the session, the places and the names of both sides, the user in whose name, whether the target is
--- created where it is absent, and how many megabytes of each file are kept in memory at most
+-- created where it is absent, and how many megabytes of each file are kept in memory at most; whether the pass begins at 0, how many changes it lists at a time,
+-- for how many seconds it waits for a reply, and whether standard error has what was refused
 pub record SyncAsked : Type 0 where
   pub secret : Text
   pub session : Text
@@ -141,6 +154,10 @@ pub record SyncAsked : Type 0 where
   pub user : Option Text
   pub create : Bool
   pub cache : ℕ
+  pub from_start : Bool
+  pub batch : ℕ
+  pub patience : ℕ
+  pub log : Bool
   pub admins : List Text
 
 -- what the program is asked to do
@@ -170,10 +187,22 @@ serve_asked_by rows =
     (cache_in (first_of (codes "cache") rows))) (at_once_in (first_of (codes "at-once") rows))) (option_and_then conns_in (first_of (codes "conns") rows)))
     (option_and_then port_in (first_of (codes "port") rows))) (first_of (codes "file") rows)) (first_of (codes "secret") rows)
 
+-- `:`
+abbrev pub is_colon : ℕ → Bool
+is_colon b = b == 58
+
+-- a host and a port from 1 on, with a colon between
+abbrev pub is_address : Text → Bool
+is_address text = nat_lt 0 (length (before_first is_colon text)) && is_some (number_between 1 65535 (after_first is_colon text))
+
+-- the server at an address, where it is one
+abbrev pub address_in : Text → Option SideAsked
+address_in text = if is_address text then Some (address_asked text) else None
+
 -- just one of a file and an address
 abbrev pub side_in : Option Text → Option Text → Option SideAsked
 side_in (Some path) None = Some (file_asked path)
-side_in None (Some address) = Some (address_asked address)
+side_in None (Some address) = address_in address
 side_in path address = None
 
 -- two databases, each with the place where it is, are neither in one file, by its path, nor the same one at one address
@@ -212,7 +241,7 @@ pass_in asked = if can_be_made asked then Some (sync_asked asked) else None
 abbrev pub sync_asked_by : List Row → Option Asked
 sync_asked_by rows =
     option_and_then (λ secret. option_and_then (λ session. option_and_then (λ source. option_and_then (λ database. option_and_then (λ target.
-    option_and_then (λ target_database. option_and_then (λ user. option_and_then (λ cache.
+    option_and_then (λ target_database. option_and_then (λ user. option_and_then (λ cache. option_and_then (λ batch. option_and_then (λ patience.
     pass_in (record {
       secret = secret;
       session = session;
@@ -223,9 +252,13 @@ sync_asked_by rows =
       user = user;
       create = is_given (first_of (codes "create") rows);
       cache = cache;
+      from_start = is_given (first_of (codes "from-start") rows);
+      batch = batch;
+      patience = patience;
+      log = is_given (first_of (codes "log") rows);
       admins = admins_in rows;
     }))
-    (cache_in (first_of (codes "cache") rows))) (user_in (first_of (codes "user") rows))) (first_of (codes "target-db") rows))
+    (patience_in (first_of (codes "patience") rows))) (batch_in (first_of (codes "batch") rows))) (cache_in (first_of (codes "cache") rows))) (user_in (first_of (codes "user") rows))) (first_of (codes "target-db") rows))
     (side_in (first_of (codes "to") rows) (first_of (codes "address") rows))) (first_of (codes "db") rows))
     (side_in (first_of (codes "from") rows) (first_of (codes "from-address") rows))) (first_of (codes "session") rows)) (first_of (codes "secret") rows)
 
@@ -266,6 +299,10 @@ sync_of p = record {
   user = option_map string_bytes p.user;
   create = p.create;
   cache = p.cache;
+  from_start = p.from_start;
+  batch = p.batch;
+  patience = p.patience;
+  log = p.log;
   admins = map string_bytes p.admins.items;
 }
 

@@ -7,7 +7,7 @@ ghost use Rattle.std.specs.List.{list_all};
 ghost use Rattle.clap.specs.declared.builder.command.Command.TheViews.{out-Command as fields_of};
 ghost use Rattle.clap.specs.Words.{all_of, app_of, fault_of, first_of, found_of, kind_of, rows_of, rule_of, subcommand_of, subcommand_rows_of, with_subcommand};
 ghost use Rattle.command_line.specs.Plan.{asked_at, asked_by, command_of, bare_command, command_named, couchd_command};
-ghost use Rattle.command_line.specs.Plan.{are_apart, can_be_made, check_asked_by, check_command, is_file, is_given, is_header_byte, is_numeral};
+ghost use Rattle.command_line.specs.Plan.{address_in, are_apart, can_be_made, check_asked_by, check_command, is_address, is_file, is_given, is_header_byte, is_numeral};
 ghost use Rattle.command_line.specs.Plan.{lab_asked_by, lab_command, number_between, number_or, optional_option, port_in, serve_asked_by};
 ghost use Rattle.command_line.specs.Plan.{serve_command, side_in, side_of, user_in};
 ghost use Rattle.command_line.specs.Plan.{sync_asked_by, sync_command, sync_of};
@@ -36,6 +36,18 @@ const CACHE: u32 = 64;
 
 /// How many megabytes of a file's pages are kept in memory at most.
 const GREATEST_CACHE: u32 = 4_096;
+
+/// How many changes a pass lists at a time where the words don't say it.
+const BATCH: u32 = 500;
+
+/// How many changes a pass lists at a time at most.
+const GREATEST_BATCH: u32 = 1_000;
+
+/// For how many seconds a pass waits for a reply where the words don't say it.
+const PATIENCE: u32 = 120;
+
+/// For how many seconds a pass waits for a reply at most.
+const GREATEST_PATIENCE: u32 = 86_400;
 
 /// Reads the words of a command line, of which the first is the program's name, as in `env::args`.
 ///
@@ -114,8 +126,9 @@ fn add_serve<'a>(alloc: Global, couchd: Command<'a>) -> Result<Command<'a>, Allo
 }
 
 /// Adds the command `sync --secret S --session T [--from F | --from-address B] --db D [--to G |
-/// --address A] --target-db E [--user U] [--create] [--cache MB] [ADMIN]...`. It also takes words with both
-/// places of a side, or with neither, which `choose_side` refuses.
+/// --address A] --target-db E [--user U] [--create] [--cache MB] [--from-start] [--batch N] [--patience S]
+/// [--log] [ADMIN]...`. It also takes words with both places of a side, or with neither, which `choose_side`
+/// refuses.
 fn add_sync<'a>(alloc: Global, couchd: Command<'a>) -> Result<Command<'a>, AllocError>
     ensures { IfOk result (λ added. app_of added ≡ with_subcommand (app_of couchd.entry) sync_command) }
 {
@@ -131,6 +144,10 @@ fn add_sync<'a>(alloc: Global, couchd: Command<'a>) -> Result<Command<'a>, Alloc
         Word::Optional("user"),
         Word::Flag("create"),
         Word::Optional("cache"),
+        Word::Flag("from-start"),
+        Word::Optional("batch"),
+        Word::Optional("patience"),
+        Word::Flag("log"),
         Word::Admins,
     ];
     add_command(alloc, couchd, "sync", &words)
@@ -258,6 +275,10 @@ fn sync_plan(alloc: Global, matches: &ArgMatches<'_>) -> Result<Plan, PlanFault>
     let user = check_user(option_at(alloc, matches, "user")?)?;
     let create = is_given(matches, "create");
     let cache = number_or(matches, "cache", CACHE, GREATEST_CACHE)?;
+    let from_start = is_given(matches, "from-start");
+    let batch = number_or(matches, "batch", BATCH, GREATEST_BATCH)?;
+    let patience = number_or(matches, "patience", PATIENCE, GREATEST_PATIENCE)?;
+    let log = is_given(matches, "log");
     let admins = admins_of(alloc, matches)?;
     let plan = SyncPlan {
         secret,
@@ -269,6 +290,10 @@ fn sync_plan(alloc: Global, matches: &ArgMatches<'_>) -> Result<Plan, PlanFault>
         user,
         create,
         cache,
+        from_start,
+        batch,
+        patience,
+        log,
         admins,
     };
     if !can_be_made(&plan) {
@@ -348,8 +373,29 @@ fn choose_side(file: Option<String>, address: Option<String>) -> Result<SyncSide
 {
     match (file, address) {
         (Some(file), None) => Ok(SyncSide::File(file)),
-        (None, Some(address)) => Ok(SyncSide::Address(address)),
+        (None, Some(address)) => server_at(address),
         (Some(_), Some(_)) | (None, None) => Err(PlanFault::Usage),
+    }
+}
+
+/// Returns the server at an address.
+fn server_at(address: String) -> Result<SyncSide, PlanFault>
+    ensures ok { IfOk result (λ side. address_in (string_bytes address) ≡ Some (side_of side)) }
+    ensures usage { IfErr result (λ _. address_in (string_bytes address) ≡ None) }
+{
+    if is_address(address.as_str()) {
+        return Ok(SyncSide::Address(address));
+    }
+    Err(PlanFault::Usage)
+}
+
+/// Tells whether a text is a host and a port from 1 on, with a colon between.
+fn is_address(text: &str) -> bool
+    ensures { result ≡ is_address text.now }
+{
+    match text.split_once(':') {
+        Some((host, port)) => !host.is_empty() && read_number(port, 1, GREATEST_PORT).is_some(),
+        None => false,
     }
 }
 

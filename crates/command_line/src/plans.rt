@@ -30,8 +30,8 @@ pub enum Plan {
         admins: Vec<String>,
     },
     /// `sync --secret S --session T [--from F | --from-address B] --db D [--to G | --address A]
-    /// --target-db E [--user U] [--create] [--cache MB] [ADMIN]...`: copy what a database has and another
-    /// lacks.
+    /// --target-db E [--user U] [--create] [--cache MB] [--from-start] [--batch N] [--patience S] [--log]
+    /// [ADMIN]...`: copy what a database has and another lacks.
     Sync(SyncPlan),
     /// `check --file F [--cache MB]`: tell whether a file is a store of this server.
     Check {
@@ -63,6 +63,14 @@ pub struct SyncPlan {
     pub create: bool,
     /// How many megabytes of each file's pages are kept in memory at most, 1 to 4,096.
     pub cache: u32,
+    /// The pass begins at the sequence 0, whatever the checkpoints say.
+    pub from_start: bool,
+    /// How many changes it lists at a time at first, 1 to 1,000.
+    pub batch: u32,
+    /// For how many seconds it waits for the reply to each request, 1 to 86,400.
+    pub patience: u32,
+    /// What was refused is told on standard error too.
+    pub log: bool,
     /// The names of the admins of the stores in files.
     pub admins: Vec<String>,
 }
@@ -80,6 +88,10 @@ impl Drop for SyncPlan {
             user: _,
             create: _,
             cache: _,
+            from_start: _,
+            batch: _,
+            patience: _,
+            log: _,
             admins: _,
         } = self;
     }

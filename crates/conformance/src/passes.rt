@@ -28,6 +28,7 @@ fn config(alloc: Global, from: &str) -> Result<Config, Fail> {
         user: None,
         session: String::from_str(alloc, "S1")?,
         batch: Batch::new(2),
+        is_from_start: false,
     })
 }
 

@@ -1,6 +1,6 @@
 -- What the lines of a script do: the nodes, connections and passes that they name, and what is printed.
 -- This project's own; the order of replies is RFC 9112, section 9.3.2.
-use Rattle.std.specs.Prelude.{◌≡◌, ℕ, ◌+◌, List, [], ◌∷◌, ◌++◌, length, map, Option, Some, None, option_map}
+use Rattle.std.specs.Prelude.{◌≡◌, ℕ, ◌+◌, false, List, [], ◌∷◌, ◌++◌, length, map, Option, Some, None, option_map}
 use Rattle.std.specs.FinMap.{empty, get, insert}
 use Rattle.std.specs.Io.BufRead.{drop_through, first_piece}
 use Rattle.std.specs.Io.KnownBytes.{Appends}
@@ -88,6 +88,7 @@ pass_configuration c words = record {
   user = option_map (account_named c) words.user;
   session = words.session;
   batch = words.batch;
+  is_from_start = false;
 }
 
 -- the network with one more pass between the nodes of these numbers

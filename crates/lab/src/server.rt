@@ -45,6 +45,7 @@ impl Server<'_> {
             user: self.user(words.user)?,
             session: String::from_str(self.alloc, words.session)?,
             batch: words.batch,
+            is_from_start: false,
         })
     }
 

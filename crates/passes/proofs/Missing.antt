@@ -1,11 +1,12 @@
 -- A comparison of revisions, as a pass reads it back, tells of all that the database doesn't know.
-use Rattle.std.proofs.Common.{◌≡◌, ◌⊎◌, inl, inr, ⊎_elim, ◌&&◌, ◌||◌, not, ℕ, List, [], ◌∷◌, map, filter, Bool, true, false, cond, Option, Some, None, option_map, option_and_then, is_some, unwrap_or, Ordering, Less, Equal, Greater, nat_cmp, is_eq, codes, bytes_eq, refl, sym, ap, ◌∙◌, subst}
+use Rattle.std.proofs.Common.{◌≡◌, ◌⊎◌, inl, inr, ⊎_elim, ◌&&◌, ◌||◌, ◌==◌, not, ℕ, List, [], ◌∷◌, ◌++◌, length, map, filter, Bool, true, false, cond, Option, Some, None, option_map, option_and_then, is_some, unwrap_or, Ordering, Less, Equal, Greater, nat_cmp, is_eq, codes, bytes_eq, refl, sym, ap, ◌∙◌, subst}
 use Rattle.std.specs.Prelude.{IsTrue}
 use Rattle.std.specs.FinMap.{empty, get-empty}
 use Rattle.std.specs.List.{list_any}
 use Rattle.std.specs.Cmp.Lexicographic.{slice_cmp}
 use Rattle.std.specs.Ordering.{match_ordering}
 use Rattle.std.proofs.lemmas.Map.Text.{is_eq-slice_cmp}
+use Rattle.std.proofs.lemmas.List.Folds.{list_any-append}
 use Rattle.std.proofs.lemmas.Slice.Eq.{bytes_eq-Decides}
 use Rattle.couch_json.specs.Lawful.{HasAscendingNames, IsBefore, IsLawful}
 use Rattle.couch_json.specs.Value.{Value, array, object, text, Members, no_members, member, member_at, put}
@@ -23,7 +24,7 @@ use Rattle.api.specs.Listings.{requested_differences, revisions_of_members, with
 use Rattle.api.specs.Queries.{revisions_in, revisions_listed}
 use Rattle.repl.specs.Calls.{Revisions, revisions_put, revisions_value, texts_value}
 use Rattle.repl.specs.Replies as replies
-use Rattle.repl.specs.Replies.{has_missing_lists, missing_in, missing_of, missing_of_each, unless_empty}
+use Rattle.repl.specs.Replies.{groups_from, has_missing_lists, missing_in, missing_of, missing_of_each, most_revisions, of_document}
 use Rattle.repl.specs.Shapes.{before, each_in}
 use Rattle.passes.proofs.MemberLemmas.{put_at_other, put_at_same}
 use Rattle.passes.specs.Owed.{AreDistinct, Compares}
@@ -241,14 +242,38 @@ left_over h (x ∷ xs) r (inr s) = by (is_known h x) (left_over h xs r s)
 
 -- ---- all of it
 
-unless_more : (id : List ℕ) (r : Revision) (key : List ℕ) (ts : List (List ℕ)) (others : List Revisions) → is_among id r others ≡ true → is_among id r (unless_empty key ts others) ≡ true
-unless_more id r key [] others e = e
-unless_more id r key (t ∷ ts) others e = or_right _ (is_among id r others) e
+-- the groups of what is missing hold what was begun, and what is left
+in_begun : (P : List ℕ → Bool) (group ts : List (List ℕ)) → list_any P group ≡ true → list_any (λ g. list_any P g) (groups_from group ts) ≡ true
+in_begun P [] [] e = absurd cc
+in_begun P (x ∷ xs) [] e = or_left (list_any P (x ∷ xs)) false e
+in_begun P group (t ∷ ts) e = by (length group == most_revisions)
+  where
+    by : (b : Bool) → list_any (λ g. list_any P g) (cond b (group ∷ groups_from (t ∷ []) ts) (groups_from (group ++ t ∷ []) ts)) ≡ true
+    by true = or_left (list_any P group) _ e
+    by false = in_begun P (group ++ t ∷ []) ts (list_any-append P group (t ∷ []) ∙ or_left (list_any P group) (list_any P (t ∷ [])) e)
 
-unless_here : (id : List ℕ) (r : Revision) (key : List ℕ) (ts : List (List ℕ)) (others : List Revisions) → bytes_eq key id ≡ true → list_any (λ t. bytes_eq t (text_of r)) ts ≡ true
-    → is_among id r (unless_empty key ts others) ≡ true
-unless_here id r key [] others k e = absurd cc
-unless_here id r key (t ∷ ts) others k e = or_left _ (is_among id r others) (and_so (bytes_eq key id) (list_any (λ x. bytes_eq x (text_of r)) (t ∷ ts)) k e)
+in_rest : (P : List ℕ → Bool) (group ts : List (List ℕ)) → list_any P ts ≡ true → list_any (λ g. list_any P g) (groups_from group ts) ≡ true
+in_rest P group [] e = absurd cc
+in_rest P group (t ∷ ts) e = by (length group == most_revisions) (or_parts (P t) (list_any P ts) e)
+  where
+    by : (b : Bool) → (P t ≡ true) ⊎ (list_any P ts ≡ true) → list_any (λ g. list_any P g) (cond b (group ∷ groups_from (t ∷ []) ts) (groups_from (group ++ t ∷ []) ts)) ≡ true
+    by true (inl here) = or_right (list_any P group) _ (in_begun P (t ∷ []) ts (or_left (P t) false here))
+    by true (inr later) = or_right (list_any P group) _ (in_rest P (t ∷ []) ts later)
+    by false (inl here) = in_begun P (group ++ t ∷ []) ts (list_any-append P group (t ∷ []) ∙ or_right (list_any P group) (list_any P (t ∷ [])) (or_left (P t) false here))
+    by false (inr later) = in_rest P (group ++ t ∷ []) ts later
+
+grouped_more : (id : List ℕ) (r : Revision) (key : List ℕ) (gs : List (List (List ℕ))) (others : List Revisions) → is_among id r others ≡ true → is_among id r (of_document key gs others) ≡ true
+grouped_more id r key [] others e = e
+grouped_more id r key (g ∷ gs) others e = or_right _ (is_among id r (of_document key gs others)) (grouped_more id r key gs others e)
+
+grouped_here : (id : List ℕ) (r : Revision) (key : List ℕ) (gs : List (List (List ℕ))) (others : List Revisions) → bytes_eq key id ≡ true
+    → list_any (λ g. list_any (λ t. bytes_eq t (text_of r)) g) gs ≡ true → is_among id r (of_document key gs others) ≡ true
+grouped_here id r key [] others k e = absurd cc
+grouped_here id r key (g ∷ gs) others k e =
+    ⊎_elim
+    (λ here. or_left _ (is_among id r (of_document key gs others)) (and_so (bytes_eq key id) (list_any (λ x. bytes_eq x (text_of r)) g) k here))
+    (λ later. or_right _ (is_among id r (of_document key gs others)) (grouped_here id r key gs others k later))
+    (or_parts (list_any (λ t. bytes_eq t (text_of r)) g) (list_any (λ h. list_any (λ t. bytes_eq t (text_of r)) h) gs) e)
 
 among_each : (id : List ℕ) (r : Revision) (v : Value) (rows : List Revisions) → list_any (λ t. bytes_eq t (text_of r)) (missing_of id v) ≡ true → is_among id r rows ≡ true → is_among id r (missing_of_each v rows) ≡ true
 among_each id r v [] told e = absurd cc
@@ -256,9 +281,10 @@ among_each id r v (l ∷ ls) told e =
     ⊎_elim
     (λ here.
     let k = and_both (bytes_eq l.id id) (list_any (λ t. bytes_eq t (text_of r)) l.revisions) here in
-    unless_here id r l.id (missing_of l.id v) (missing_of_each v ls) k.0
-    (ap (λ (i : List ℕ). list_any (λ t. bytes_eq t (text_of r)) (missing_of i v)) (same_bytes l.id id k.0) ∙ told))
-    (λ later. unless_more id r l.id (missing_of l.id v) (missing_of_each v ls) (among_each id r v ls told later))
+    grouped_here id r l.id (groups_from [] (missing_of l.id v)) (missing_of_each v ls) k.0
+    (in_rest (λ t. bytes_eq t (text_of r)) [] (missing_of l.id v)
+    (ap (λ (i : List ℕ). list_any (λ t. bytes_eq t (text_of r)) (missing_of i v)) (same_bytes l.id id k.0) ∙ told)))
+    (λ later. grouped_more id r l.id (groups_from [] (missing_of l.id v)) (missing_of_each v ls) (among_each id r v ls told later))
     (or_parts (bytes_eq l.id id && list_any (λ t. bytes_eq t (text_of r)) l.revisions) (is_among id r ls) e)
 
 was_each : (b : Bool) (rows missing : List Revisions) → cond b (Some rows) None ≡ Some missing → rows ≡ missing

@@ -10,13 +10,14 @@ use Rattle.store.specs.Database.{Database, Document, IsLater, history_at, histor
 use Rattle.store.proofs.Laters.{later_still}
 use Rattle.repl.specs.Calls.{Revisions}
 use Rattle.repl.specs.Configuration.{PassConfiguration}
-use Rattle.repl.specs.Passes.{Pass, answered_in, answered_of, fills, first_of_pending, is_written, lost_of, pass_after, phase_after_list, phase_after_loss, phase_after_round, phase_with, with_changes, with_lacking, with_failures, with_opened, with_source, with_source_reread, with_source_written, with_target, with_target_reread, with_target_written}
+use Rattle.repl.specs.Passes.{Pass, answered_in, answered_of, answers_list, answers_open, answers_push, failures_taken, fills, first_of_pending, is_written, list_taken, lost_of, opened_taken, pass_after, phase_after_list, phase_after_loss, phase_after_round, phase_with, with_changes, with_failures, with_lacking, with_opened, with_source, with_source_reread, with_source_written, with_target, with_target_reread, with_target_written}
 use Rattle.repl.specs.Replies.{Changes, Opened, Stored, changes_listed, checkpoint_read, checkpoint_written, differences_read, documents_of_opened, documents_pushed, missing_reports, revisions_opened}
 use Rattle.repl.specs.Turns.{Turn, after_turn, answered, lost}
 use Rattle.repl.specs.declared.phase.Phase.{Phase}
 use Rattle.repl.specs.declared.phase.Phase.TheVariants.{ReadSource, ReadTarget, ListChanges, Compare, Open, Push, WriteSource, WriteTarget, RereadSource, RereadTarget, Done, Stopped}
 use Rattle.repl.specs.declared.why.Why.{Why}
 use Rattle.repl.proofs.LossLemmas.{lost_by}
+use Rattle.repl.proofs.TakenLemmas.{was_said}
 use Rattle.passes.proofs.Missing.{or_left, or_parts, or_right}
 use Rattle.passes.specs.Owed.{Covers, DoneOwesNothing, Event, Follows, Goes, IsTruth, Names, RoundsCover, Scene, Went, has_covered, listed_after, others, turn}
 use Rattle.passes.specs.Settled.{is_among, is_document_of, is_report_entry_of, is_reported, is_sent, is_settled}
@@ -205,13 +206,14 @@ not_filled None some = refl
 not_filled (Some zero) some = absurd (omega (arith, some))
 not_filled (Some (suc n)) some = ne_eqb 0 (suc n) (λ e. cc)
 
-from_list : (s s' t t' listed : Database) (p : Pass) (status : ℕ) (body : List ℕ) (r : Result Changes Why) → changes_listed status body ≡ r → IfSome p.configuration.batch (λ size. 1 ≤ size)
+from_list : (s s' t t' listed : Database) (p : Pass) (status : ℕ) (body : List ℕ) (r : Result Changes Why)
+    → ((c : Changes) → r ≡ Ok c → changes_listed status body ≡ Ok c) → IfSome p.configuration.batch (λ size. 1 ≤ size)
     → IsLater s s' → IsLater t t' → IsTruth ListChanges p s t' status body → Invariant ListChanges s t listed p → Invariant (pass_after with_changes p r).phase s' t' s (pass_after with_changes p r)
 from_list s s' t t' listed p status body (Err why) e sized ls lt truth h = tt
 from_list s s' t t' listed p status body (Ok c) e sized ls lt truth h = by c.leaves frame round
   where
     names : Names s p.since p.configuration.batch c
-    names = truth c e
+    names = truth c (e c refl)
 
     frame : Frame s p.start p.start c.sequence (fills p.configuration.batch c.leaves)
     frame = record {
@@ -281,7 +283,8 @@ opened_next (row ∷ rows) documents opened t' refused id r truth k =
     (λ sent. or_right settled (opening rows all id r) (or_right (is_among id r rows) (is_sent id r all) (sent_more id r documents (documents_of_opened opened) sent)))
     (or_parts (is_among id r (row ∷ rows)) (is_sent id r documents) k)
 
-from_open : (s s' t t' listed : Database) (p : Pass) (status : ℕ) (body : List ℕ) (r : Result (List Opened) Why) → revisions_opened status body ≡ r → IsLater s s' → IsLater t t'
+from_open : (s s' t t' listed : Database) (p : Pass) (status : ℕ) (body : List ℕ) (r : Result (List Opened) Why)
+    → ((opened : List Opened) → r ≡ Ok opened → revisions_opened status body ≡ Ok opened) → IsLater s s' → IsLater t t'
     → IsTruth Open p s t' status body → Invariant Open s t listed p → Invariant (pass_after with_opened p r).phase s' t' listed (pass_after with_opened p r)
 from_open s s' t t' listed p status body (Err why) e ls lt truth h = tt
 from_open s s' t t' listed p status body (Ok opened) e ls lt truth h =
@@ -289,10 +292,11 @@ from_open s s' t t' listed p status body (Ok opened) e ls lt truth h =
     goes_on (drop 1 p.pending) (p.documents ++ documents_of_opened opened) s' t' listed (with_opened p opened) (
       h.0,
       moves s s' t t' listed p.start p.last_seq p.refused (p.refused ++ reports) (opening p.pending p.documents) (opening (drop 1 p.pending) (p.documents ++ documents_of_opened opened)) ls
-          (wider_more t t' p.refused reports lt) (λ id r good k. opened_next p.pending p.documents opened t' p.refused id r (truth opened e id r good) k) h.1,
+          (wider_more t t' p.refused reports lt) (λ id r good k. opened_next p.pending p.documents opened t' p.refused id r (truth opened (e opened refl) id r good) k) h.1,
     )
 
-from_push : (s s' t t' listed : Database) (p : Pass) (status : ℕ) (body : List ℕ) (r : Result (List Value) Why) → documents_pushed status body ≡ r → IsLater s s' → IsLater t t'
+from_push : (s s' t t' listed : Database) (p : Pass) (status : ℕ) (body : List ℕ) (r : Result (List Value) Why)
+    → ((failures : List Value) → r ≡ Ok failures → documents_pushed status body ≡ Ok failures) → IsLater s s' → IsLater t t'
     → IsTruth Push p s t' status body → Invariant Push s t listed p → Invariant (pass_after with_failures p r).phase s' t' listed (pass_after with_failures p r)
 from_push s s' t t' listed p status body (Err why) e ls lt truth h = tt
 from_push s s' t t' listed p status body (Ok failures) e ls lt truth h = (
@@ -302,7 +306,7 @@ from_push s s' t t' listed p status body (Ok failures) e ls lt truth h = (
       (⊎_elim
       (λ known. or_left (is_known (history_at t' id) r) (is_reported id r (p.refused ++ failures)) known)
       (λ told. or_right (is_known (history_at t' id) r) (is_reported id r (p.refused ++ failures)) (reported_new id r p.refused failures told))
-      (or_parts (is_known (history_at t' id) r) (is_reported id r failures) (truth failures e id r good k)))) h.1,
+      (or_parts (is_known (history_at t' id) r) (is_reported id r failures) (truth failures (e failures refl) id r good k)))) h.1,
 )
 
 from_source : (s t listed : Database) (p : Pass) (r : Result Stored Why) → Invariant (pass_after with_source p r).phase s t listed (pass_after with_source p r)
@@ -369,10 +373,13 @@ answered_holds : (f : Phase) (s s' t t' listed : Database) (p : Pass) (status : 
     → IsTruth f p s t' status body → Invariant f s t listed p → Invariant (answered_in f p status body).phase s' t' (listed_after f s listed (answered status body)) (answered_in f p status body)
 answered_holds ReadSource s s' t t' listed p status body e sized ls lt truth h = from_source s' t' listed p (checkpoint_read status body)
 answered_holds ReadTarget s s' t t' listed p status body e sized ls lt truth h = from_target s' t' listed p (checkpoint_read status body)
-answered_holds ListChanges s s' t t' listed p status body e sized ls lt truth h = from_list s s' t t' listed p status body (changes_listed status body) refl sized ls lt truth h
+answered_holds ListChanges s s' t t' listed p status body e sized ls lt truth h = from_list s s' t t' listed p status body (list_taken p status body)
+    (was_said (λ c. answers_list p c) (changes_listed status body)) sized ls lt truth h
 answered_holds Compare s s' t t' listed p status body e sized ls lt truth h = from_compare s s' t t' listed p status body (differences_read p.leaves status body) refl ls lt truth h
-answered_holds Open s s' t t' listed p status body e sized ls lt truth h = from_open s s' t t' listed p status body (revisions_opened status body) refl ls lt truth h
-answered_holds Push s s' t t' listed p status body e sized ls lt truth h = from_push s s' t t' listed p status body (documents_pushed status body) refl ls lt truth h
+answered_holds Open s s' t t' listed p status body e sized ls lt truth h = from_open s s' t t' listed p status body (opened_taken p status body)
+    (was_said (λ opened. answers_open p opened) (revisions_opened status body)) ls lt truth h
+answered_holds Push s s' t t' listed p status body e sized ls lt truth h = from_push s s' t t' listed p status body (failures_taken p status body)
+    (was_said (λ failures. answers_push p failures) (documents_pushed status body)) ls lt truth h
 answered_holds WriteSource s s' t t' listed p status body e sized ls lt truth h = from_write s' t' listed p (checkpoint_written status body) (grown WriteSource s s' t t' listed p ls lt h)
 answered_holds WriteTarget s s' t t' listed p status body e sized ls lt truth h = from_last s' t' listed p (checkpoint_written status body) (grown WriteTarget s s' t t' listed p ls lt h)
 answered_holds RereadSource s s' t t' listed p status body e sized ls lt truth h = from_reread s' t' listed p (checkpoint_read status body) (grown RereadSource s s' t t' listed p ls lt h)
@@ -389,10 +396,10 @@ same_configuration take p (Err why) same = refl
 answered_configured : (f : Phase) (p : Pass) (status : ℕ) (body : List ℕ) → (answered_in f p status body).configuration ≡ p.configuration
 answered_configured ReadSource p status body = same_configuration with_source p (checkpoint_read status body) (λ a. refl)
 answered_configured ReadTarget p status body = same_configuration with_target p (checkpoint_read status body) (λ a. refl)
-answered_configured ListChanges p status body = same_configuration with_changes p (changes_listed status body) (λ a. refl)
+answered_configured ListChanges p status body = same_configuration with_changes p (list_taken p status body) (λ a. refl)
 answered_configured Compare p status body = same_configuration with_lacking p (differences_read p.leaves status body) (λ a. refl)
-answered_configured Open p status body = same_configuration with_opened p (revisions_opened status body) (λ a. refl)
-answered_configured Push p status body = same_configuration with_failures p (documents_pushed status body) (λ a. refl)
+answered_configured Open p status body = same_configuration with_opened p (opened_taken p status body) (λ a. refl)
+answered_configured Push p status body = same_configuration with_failures p (failures_taken p status body) (λ a. refl)
 answered_configured WriteSource p status body = same_configuration with_source_written p (checkpoint_written status body) (λ a. refl)
 answered_configured WriteTarget p status body = same_configuration with_target_written p (checkpoint_written status body) (λ a. refl)
 answered_configured RereadSource p status body = same_configuration with_source_reread p (checkpoint_read status body) (λ a. refl)

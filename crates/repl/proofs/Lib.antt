@@ -2,6 +2,7 @@ pub mod Joins
 pub mod PushedTexts
 pub mod SessionLemmas
 pub mod MadeLemmas
+pub mod GroupLemmas
 pub mod PendingLemmas
 pub mod Segments
 pub mod IndexLemmas
@@ -9,3 +10,4 @@ pub mod LossLemmas
 pub mod ReportLemmas
 pub mod StartLemmas
 pub mod StopLemmas
+pub mod TakenLemmas

@@ -2,8 +2,8 @@
 use Rattle.std.proofs.Common.{◌≡◌, ◌∙◌, ℕ, List, [], ◌∷◌, ◌++◌, Result, Ok, Err, append_assoc, append-nil, refl, sym, ap}
 use Rattle.couch_json.specs.Value.{Value}
 use Rattle.repl.specs.Configuration.{PassConfiguration}
-use Rattle.repl.specs.Passes.{Pass, answered_in, first_of_pending, first_pass, pass_after, with_changes, with_lacking, with_failures, with_opened, with_source, with_source_reread, with_source_written, with_target, with_target_reread, with_target_written}
-use Rattle.repl.specs.Replies.{changes_listed, checkpoint_read, checkpoint_written, differences_read, documents_pushed, missing_reports, revisions_opened}
+use Rattle.repl.specs.Passes.{Pass, answered_in, failures_taken, first_of_pending, first_pass, list_taken, opened_taken, pass_after, with_changes, with_lacking, with_failures, with_opened, with_source, with_source_reread, with_source_written, with_target, with_target_reread, with_target_written}
+use Rattle.repl.specs.Replies.{checkpoint_read, checkpoint_written, differences_read, missing_reports}
 use Rattle.repl.specs.Turns.{Turn, after_turn, after_turns, answered, lost, told_at, told_in, told_of, where_said}
 use Rattle.repl.specs.declared.phase.Phase.{Phase}
 use Rattle.repl.specs.declared.phase.Phase.TheVariants.{ReadSource, ReadTarget, ListChanges, Compare, Open, Push, WriteSource, WriteTarget, RereadSource, RereadTarget, Done, Stopped}
@@ -22,10 +22,10 @@ told_some take p (Err why) report same = sym (append-nil p.refused)
 answer_told : (f : Phase) (p : Pass) (status : ℕ) (body : List ℕ) → (answered_in f p status body).refused ≡ p.refused ++ told_in f p status body
 answer_told ReadSource p status body = told_none with_source p (checkpoint_read status body) (λ s. refl)
 answer_told ReadTarget p status body = told_none with_target p (checkpoint_read status body) (λ s. refl)
-answer_told ListChanges p status body = told_none with_changes p (changes_listed status body) (λ c. refl)
+answer_told ListChanges p status body = told_none with_changes p (list_taken p status body) (λ c. refl)
 answer_told Compare p status body = told_none with_lacking p (differences_read p.leaves status body) (λ m. refl)
-answer_told Open p status body = told_some with_opened p (revisions_opened status body) (λ opened. missing_reports (first_of_pending p.pending).id opened) (λ o. refl)
-answer_told Push p status body = told_some with_failures p (documents_pushed status body) (λ failures. failures) (λ fs. refl)
+answer_told Open p status body = told_some with_opened p (opened_taken p status body) (λ opened. missing_reports (first_of_pending p.pending).id opened) (λ o. refl)
+answer_told Push p status body = told_some with_failures p (failures_taken p status body) (λ failures. failures) (λ fs. refl)
 answer_told WriteSource p status body = told_none with_source_written p (checkpoint_written status body) (λ r. refl)
 answer_told WriteTarget p status body = told_none with_target_written p (checkpoint_written status body) (λ r. refl)
 answer_told RereadSource p status body = told_none with_source_reread p (checkpoint_read status body) (λ s. refl)

@@ -3,10 +3,10 @@ use Rattle.std.proofs.Common.{◌≡◌, ◌∙◌, ℕ, ◌+◌, ◌||◌, Bool
 use Rattle.std.specs.Prelude.{⊤, is_ok}
 use Rattle.couch_json.specs.Value.{Value}
 use Rattle.repl.specs.Calls.{Revisions}
-use Rattle.repl.specs.Checkpoints.{Checkpoint, start_of}
+use Rattle.repl.specs.Checkpoints.{Checkpoint, start_with}
 use Rattle.repl.specs.Configuration.{PassConfiguration}
-use Rattle.repl.specs.Passes.{Pass, answered_in, first_pass, is_written, lost_of, pass_after, phase_after_list, phase_after_loss, phase_after_round, phase_with, with_changes, with_lacking, with_failures, with_opened, with_source, with_source_reread, with_source_written, with_target, with_target_reread, with_target_written}
-use Rattle.repl.specs.Replies.{Changes, Opened, Stored, changes_listed, checkpoint_read, checkpoint_written, differences_read, documents_of_opened, documents_pushed, revisions_opened}
+use Rattle.repl.specs.Passes.{Pass, answered_in, failures_taken, first_pass, is_written, list_taken, lost_of, opened_taken, pass_after, phase_after_list, phase_after_loss, phase_after_round, phase_with, with_changes, with_lacking, with_failures, with_opened, with_source, with_source_reread, with_source_written, with_target, with_target_reread, with_target_written}
+use Rattle.repl.specs.Replies.{Changes, Opened, Stored, checkpoint_read, checkpoint_written, differences_read, documents_of_opened}
 use Rattle.repl.specs.Turns.{Turn, after_turn, after_turns, answered, checkpoint_said, has_listed, lists_at, lists_in, lost, replies_in, start_by, stored_said}
 use Rattle.repl.specs.declared.phase.Phase.{Phase}
 use Rattle.repl.specs.declared.phase.Phase.TheVariants.{ReadSource, ReadTarget, ListChanges, Compare, Open, Push, WriteSource, WriteTarget, RereadSource, RereadTarget, Done, Stopped}
@@ -16,13 +16,13 @@ use Rattle.repl.proofs.LossLemmas.{lost_by}
 abbrev Taken : Type 0
 Taken = List (ℕ × List ℕ)
 
--- the first two of these replies give this start
-record IsStart (rs : Taken) (n : ℕ) : Type 0 where
+-- the first two of these replies give this start, where a pass is told so or not to begin at 0
+record IsStart (told : Bool) (rs : Taken) (n : ℕ) : Type 0 where
   source : ℕ × List ℕ
   target : ℕ × List ℕ
   rest : Taken
   are : rs ≡ source ∷ target ∷ rest
-  is : n ≡ start_of (checkpoint_said source) (checkpoint_said target)
+  is : n ≡ start_with told (checkpoint_said source) (checkpoint_said target)
 
 -- the only reply so far gives this checkpoint
 record IsRead (rs : Taken) (older : Option Checkpoint) : Type 0 where
@@ -30,8 +30,8 @@ record IsRead (rs : Taken) (older : Option Checkpoint) : Type 0 where
   are : rs ≡ source ∷ []
   is : older ≡ checkpoint_said source
 
-start_more : (rs more : Taken) (n : ℕ) → IsStart rs n → IsStart (rs ++ more) n
-start_more rs more n h = record { source = h.source; target = h.target; rest = h.rest ++ more; are = ap (λ (xs : Taken). xs ++ more) h.are; is = h.is }
+start_more : (told : Bool) (rs more : Taken) (n : ℕ) → IsStart told rs n → IsStart told (rs ++ more) n
+start_more told rs more n h = record { source = h.source; target = h.target; rest = h.rest ++ more; are = ap (λ (xs : Taken). xs ++ more) h.are; is = h.is }
 
 -- ---- the start that the checkpoints gave
 
@@ -39,15 +39,15 @@ start_more rs more n h = record { source = h.source; target = h.target; rest = h
 abbrev Standing : Phase → Pass → Taken → Type 0
 Standing ReadSource p rs = rs ≡ []
 Standing ReadTarget p rs = IsRead rs p.older
-Standing ListChanges p rs = IsStart rs p.start
-Standing Compare p rs = IsStart rs p.start
-Standing Open p rs = IsStart rs p.start
-Standing Push p rs = IsStart rs p.start
-Standing WriteSource p rs = IsStart rs p.start
-Standing WriteTarget p rs = IsStart rs p.start
-Standing RereadSource p rs = IsStart rs p.start
-Standing RereadTarget p rs = IsStart rs p.start
-Standing Done p rs = IsStart rs p.start
+Standing ListChanges p rs = IsStart p.configuration.is_from_start rs p.start
+Standing Compare p rs = IsStart p.configuration.is_from_start rs p.start
+Standing Open p rs = IsStart p.configuration.is_from_start rs p.start
+Standing Push p rs = IsStart p.configuration.is_from_start rs p.start
+Standing WriteSource p rs = IsStart p.configuration.is_from_start rs p.start
+Standing WriteTarget p rs = IsStart p.configuration.is_from_start rs p.start
+Standing RereadSource p rs = IsStart p.configuration.is_from_start rs p.start
+Standing RereadTarget p rs = IsStart p.configuration.is_from_start rs p.start
+Standing Done p rs = IsStart p.configuration.is_from_start rs p.start
 Standing (Stopped why) p rs = ⊤
 
 from_source : (p : Pass) (rs : Taken) (status : ℕ) (body : List ℕ) (r : Result Stored Why) → checkpoint_read status body ≡ r → rs ≡ []
@@ -62,20 +62,21 @@ from_target p rs status body (Ok s) e h = record {
   target = (status, body);
   rest = [];
   are = ap (λ (xs : Taken). xs ++ (status, body) ∷ []) h.are;
-  is = ap (λ (o : Option Checkpoint). start_of o s.checkpoint) h.is ∙ ap (λ (r : Result Stored Why). start_of (checkpoint_said h.source) (stored_said r)) (sym e);
+  is = ap (λ (o : Option Checkpoint). start_with p.configuration.is_from_start o s.checkpoint) h.is
+      ∙ ap (λ (r : Result Stored Why). start_with p.configuration.is_from_start (checkpoint_said h.source) (stored_said r)) (sym e);
 }
 from_target p rs status body (Err why) e h = tt
 
-listed : (ls : List Revisions) (p : Pass) (rs : Taken) → IsStart rs p.start → Standing (phase_after_list ls) p rs
+listed : (ls : List Revisions) (p : Pass) (rs : Taken) → IsStart p.configuration.is_from_start rs p.start → Standing (phase_after_list ls) p rs
 listed [] p rs h = h
 listed (l ∷ ls) p rs h = h
 
-pending : (missing : List Revisions) (documents : List Value) (p : Pass) (rs : Taken) → IsStart rs p.start → Standing (phase_with missing documents) p rs
+pending : (missing : List Revisions) (documents : List Value) (p : Pass) (rs : Taken) → IsStart p.configuration.is_from_start rs p.start → Standing (phase_with missing documents) p rs
 pending [] [] p rs h = h
 pending [] (v ∷ vs) p rs h = h
 pending (m ∷ ms) documents p rs h = h
 
-rounded : (b : Bool) (p : Pass) (rs : Taken) → IsStart rs p.start → Standing (phase_after_round b) p rs
+rounded : (b : Bool) (p : Pass) (rs : Taken) → IsStart p.configuration.is_from_start rs p.start → Standing (phase_after_round b) p rs
 rounded true p rs h = h
 rounded false p rs h = h
 
@@ -94,37 +95,37 @@ answer_stands : (f : Phase) (p : Pass) (rs : Taken) (status : ℕ) (body : List 
 answer_stands ReadSource p rs status body e h = from_source p rs status body (checkpoint_read status body) refl h
 answer_stands ReadTarget p rs status body e h = from_target p rs status body (checkpoint_read status body) refl h
 answer_stands ListChanges p rs status body e h =
-    let more = start_more rs ((status, body) ∷ []) p.start h in
-    after_reply with_changes p (rs ++ (status, body) ∷ []) (changes_listed status body) (λ (c : Changes). listed c.leaves (with_changes p c) (rs ++ (status, body) ∷ []) more)
+    let more = start_more p.configuration.is_from_start rs ((status, body) ∷ []) p.start h in
+    after_reply with_changes p (rs ++ (status, body) ∷ []) (list_taken p status body) (λ (c : Changes). listed c.leaves (with_changes p c) (rs ++ (status, body) ∷ []) more)
 answer_stands Compare p rs status body e h =
-    let more = start_more rs ((status, body) ∷ []) p.start h in
+    let more = start_more p.configuration.is_from_start rs ((status, body) ∷ []) p.start h in
     after_reply with_lacking p (rs ++ (status, body) ∷ []) (differences_read p.leaves status body)
     (λ (missing : List Revisions). pending missing p.documents (with_lacking p missing) (rs ++ (status, body) ∷ []) more)
 answer_stands Open p rs status body e h =
-    let more = start_more rs ((status, body) ∷ []) p.start h in
-    after_reply with_opened p (rs ++ (status, body) ∷ []) (revisions_opened status body)
+    let more = start_more p.configuration.is_from_start rs ((status, body) ∷ []) p.start h in
+    after_reply with_opened p (rs ++ (status, body) ∷ []) (opened_taken p status body)
     (λ (opened : List Opened). pending _ (p.documents ++ documents_of_opened opened) (with_opened p opened) (rs ++ (status, body) ∷ []) more)
 answer_stands Push p rs status body e h =
-    let more = start_more rs ((status, body) ∷ []) p.start h in
-    after_reply with_failures p (rs ++ (status, body) ∷ []) (documents_pushed status body) (λ (failures : List Value). more)
+    let more = start_more p.configuration.is_from_start rs ((status, body) ∷ []) p.start h in
+    after_reply with_failures p (rs ++ (status, body) ∷ []) (failures_taken p status body) (λ (failures : List Value). more)
 answer_stands WriteSource p rs status body e h =
-    let more = start_more rs ((status, body) ∷ []) p.start h in
+    let more = start_more p.configuration.is_from_start rs ((status, body) ∷ []) p.start h in
     after_reply with_source_written p (rs ++ (status, body) ∷ []) (checkpoint_written status body) (λ (revision : List ℕ). more)
 answer_stands WriteTarget p rs status body e h =
-    let more = start_more rs ((status, body) ∷ []) p.start h in
+    let more = start_more p.configuration.is_from_start rs ((status, body) ∷ []) p.start h in
     after_reply with_target_written p (rs ++ (status, body) ∷ []) (checkpoint_written status body)
     (λ (revision : List ℕ). rounded p.is_full (with_target_written p revision) (rs ++ (status, body) ∷ []) more)
 answer_stands RereadSource p rs status body e h =
-    let more = start_more rs ((status, body) ∷ []) p.start h in
+    let more = start_more p.configuration.is_from_start rs ((status, body) ∷ []) p.start h in
     after_reply with_source_reread p (rs ++ (status, body) ∷ []) (checkpoint_read status body)
     (λ (s : Stored). either (is_written p s.checkpoint) WriteTarget WriteSource (with_source_reread p s) (rs ++ (status, body) ∷ []) more more)
 answer_stands RereadTarget p rs status body e h =
-    let more = start_more rs ((status, body) ∷ []) p.start h in
+    let more = start_more p.configuration.is_from_start rs ((status, body) ∷ []) p.start h in
     after_reply with_target_reread p (rs ++ (status, body) ∷ []) (checkpoint_read status body)
     (λ (s : Stored). either (is_written p s.checkpoint) (phase_after_round p.is_full) WriteTarget (with_target_reread p s) (rs ++ (status, body) ∷ [])
     (rounded p.is_full (with_target_reread p s) (rs ++ (status, body) ∷ []) more) more)
 answer_stands Done p rs status body e h =
-    subst (λ (g : Phase). Standing g p (rs ++ (status, body) ∷ [])) (sym e) (start_more rs ((status, body) ∷ []) p.start h)
+    subst (λ (g : Phase). Standing g p (rs ++ (status, body) ∷ [])) (sym e) (start_more p.configuration.is_from_start rs ((status, body) ∷ []) p.start h)
 answer_stands (Stopped why) p rs status body e h = subst (λ (g : Phase). Standing g p (rs ++ (status, body) ∷ [])) (sym e) tt
 
 -- the same pass but for what the standing does not look at
@@ -149,39 +150,39 @@ lost_stands p rs h =
 -- ---- the start that is reported
 
 -- once changes are listed, the start by the replies; before, 0
-abbrev Reported : Bool → Taken → ℕ → Type 0
-Reported false rs n = n ≡ 0
-Reported true rs n = IsStart rs n
+abbrev Reported : Bool → Bool → Taken → ℕ → Type 0
+Reported told false rs n = n ≡ 0
+Reported told true rs n = IsStart told rs n
 
-reported_more : (b : Bool) (rs more : Taken) (n m : ℕ) → m ≡ n → Reported b rs n → Reported (b || false) (rs ++ more) m
-reported_more false rs more n m e h = e ∙ h
-reported_more true rs more n m e h = subst (λ (k : ℕ). IsStart (rs ++ more) k) (sym e) (start_more rs more n h)
+reported_more : (told b : Bool) (rs more : Taken) (n m : ℕ) → m ≡ n → Reported told b rs n → Reported told (b || false) (rs ++ more) m
+reported_more told false rs more n m e h = e ∙ h
+reported_more told true rs more n m e h = subst (λ (k : ℕ). IsStart told (rs ++ more) k) (sym e) (start_more told rs more n h)
 
 -- a reply that keeps the reported start
 same_start : {A : Type 0} (take : Pass → A → Pass) (p : Pass) (r : Result A Why) → ((a : A) → (take p a).start_seq ≡ p.start_seq) → (pass_after take p r).start_seq ≡ p.start_seq
 same_start take p (Ok a) same = same a
 same_start take p (Err why) same = refl
 
-by_listing : (b : Bool) (p : Pass) (rs more : Taken) (r : Result Changes Why) → IsStart rs p.start → Reported b rs p.start_seq
-    → Reported (b || is_ok r) (rs ++ more) (pass_after with_changes p r).start_seq
-by_listing true p rs more (Ok c) h k = start_more rs more p.start h
-by_listing false p rs more (Ok c) h k = start_more rs more p.start h
-by_listing b p rs more (Err why) h k = reported_more b rs more p.start_seq p.start_seq refl k
+by_listing : (b : Bool) (p : Pass) (rs more : Taken) (r : Result Changes Why) → IsStart p.configuration.is_from_start rs p.start
+    → Reported p.configuration.is_from_start b rs p.start_seq → Reported p.configuration.is_from_start (b || is_ok r) (rs ++ more) (pass_after with_changes p r).start_seq
+by_listing true p rs more (Ok c) h k = start_more p.configuration.is_from_start rs more p.start h
+by_listing false p rs more (Ok c) h k = start_more p.configuration.is_from_start rs more p.start h
+by_listing b p rs more (Err why) h k = reported_more p.configuration.is_from_start b rs more p.start_seq p.start_seq refl k
 
-answer_reports : (f : Phase) (p : Pass) (b : Bool) (rs : Taken) (status : ℕ) (body : List ℕ) → Standing f p rs → Reported b rs p.start_seq
-    → Reported (b || lists_in f status body) (rs ++ (status, body) ∷ []) (answered_in f p status body).start_seq
+answer_reports : (f : Phase) (p : Pass) (b : Bool) (rs : Taken) (status : ℕ) (body : List ℕ) → Standing f p rs → Reported p.configuration.is_from_start b rs p.start_seq
+    → Reported p.configuration.is_from_start (b || lists_in f p status body) (rs ++ (status, body) ∷ []) (answered_in f p status body).start_seq
 answer_reports f p b rs status body h k = by f h
   where
-    kept : (n : ℕ) → n ≡ p.start_seq → Reported (b || false) (rs ++ (status, body) ∷ []) n
-    kept n e = reported_more b rs ((status, body) ∷ []) p.start_seq n e k
+    kept : (n : ℕ) → n ≡ p.start_seq → Reported p.configuration.is_from_start (b || false) (rs ++ (status, body) ∷ []) n
+    kept n e = reported_more p.configuration.is_from_start b rs ((status, body) ∷ []) p.start_seq n e k
 
-    by : (f : Phase) → Standing f p rs → Reported (b || lists_in f status body) (rs ++ (status, body) ∷ []) (answered_in f p status body).start_seq
+    by : (f : Phase) → Standing f p rs → Reported p.configuration.is_from_start (b || lists_in f p status body) (rs ++ (status, body) ∷ []) (answered_in f p status body).start_seq
     by ReadSource h = kept _ (same_start with_source p (checkpoint_read status body) (λ a. refl))
     by ReadTarget h = kept _ (same_start with_target p (checkpoint_read status body) (λ a. refl))
-    by ListChanges h = by_listing b p rs ((status, body) ∷ []) (changes_listed status body) h k
+    by ListChanges h = by_listing b p rs ((status, body) ∷ []) (list_taken p status body) h k
     by Compare h = kept _ (same_start with_lacking p (differences_read p.leaves status body) (λ a. refl))
-    by Open h = kept _ (same_start with_opened p (revisions_opened status body) (λ a. refl))
-    by Push h = kept _ (same_start with_failures p (documents_pushed status body) (λ a. refl))
+    by Open h = kept _ (same_start with_opened p (opened_taken p status body) (λ a. refl))
+    by Push h = kept _ (same_start with_failures p (failures_taken p status body) (λ a. refl))
     by WriteSource h = kept _ (same_start with_source_written p (checkpoint_written status body) (λ a. refl))
     by WriteTarget h = kept _ (same_start with_target_written p (checkpoint_written status body) (λ a. refl))
     by RereadSource h = kept _ (same_start with_source_reread p (checkpoint_read status body) (λ a. refl))
@@ -189,15 +190,40 @@ answer_reports f p b rs status body h k = by f h
     by Done h = kept p.start_seq refl
     by (Stopped why) h = kept p.start_seq refl
 
-lost_reports : (p : Pass) (b : Bool) (rs : Taken) → Reported b rs p.start_seq → Reported (b || false) rs (lost_of p).start_seq
-lost_reports p b rs k = lost_by (λ (q : Pass). Reported (b || false) rs q.start_seq) p.phase p same same same
+lost_reports : (p : Pass) (b : Bool) (rs : Taken) → Reported p.configuration.is_from_start b rs p.start_seq
+    → Reported p.configuration.is_from_start (b || false) rs (lost_of p).start_seq
+lost_reports p b rs k = lost_by (λ (q : Pass). Reported p.configuration.is_from_start (b || false) rs q.start_seq) p.phase p same same same
   where
-    by : (b : Bool) → Reported b rs p.start_seq → Reported (b || false) rs p.start_seq
+    by : (b : Bool) → Reported p.configuration.is_from_start b rs p.start_seq → Reported p.configuration.is_from_start (b || false) rs p.start_seq
     by true k = k
     by false k = k
 
-    same : Reported (b || false) rs p.start_seq
+    same : Reported p.configuration.is_from_start (b || false) rs p.start_seq
     same = by b k
+
+-- ---- what the pass was told stays
+
+same_told : {A : Type 0} (take : Pass → A → Pass) (p : Pass) (r : Result A Why) → ((a : A) → (take p a).configuration ≡ p.configuration)
+    → (pass_after take p r).configuration ≡ p.configuration
+same_told take p (Ok a) same = same a
+same_told take p (Err why) same = refl
+
+answer_told : (f : Phase) (p : Pass) (status : ℕ) (body : List ℕ) → (answered_in f p status body).configuration ≡ p.configuration
+answer_told ReadSource p status body = same_told with_source p (checkpoint_read status body) (λ a. refl)
+answer_told ReadTarget p status body = same_told with_target p (checkpoint_read status body) (λ a. refl)
+answer_told ListChanges p status body = same_told with_changes p (list_taken p status body) (λ a. refl)
+answer_told Compare p status body = same_told with_lacking p (differences_read p.leaves status body) (λ a. refl)
+answer_told Open p status body = same_told with_opened p (opened_taken p status body) (λ a. refl)
+answer_told Push p status body = same_told with_failures p (failures_taken p status body) (λ a. refl)
+answer_told WriteSource p status body = same_told with_source_written p (checkpoint_written status body) (λ a. refl)
+answer_told WriteTarget p status body = same_told with_target_written p (checkpoint_written status body) (λ a. refl)
+answer_told RereadSource p status body = same_told with_source_reread p (checkpoint_read status body) (λ a. refl)
+answer_told RereadTarget p status body = same_told with_target_reread p (checkpoint_read status body) (λ a. refl)
+answer_told Done p status body = refl
+answer_told (Stopped why) p status body = refl
+
+loss_told : (p : Pass) → (lost_of p).configuration ≡ p.configuration
+loss_told p = lost_by (λ (q : Pass). q.configuration ≡ p.configuration) p.phase p refl refl refl
 
 -- ---- turn by turn
 
@@ -209,28 +235,40 @@ or_none : (b : Bool) → (b || false) ≡ b
 or_none true = refl
 or_none false = refl
 
-turns_report : (p : Pass) (b : Bool) (rs : Taken) (ts : List Turn) → Standing p.phase p rs → Reported b rs p.start_seq
-    → Reported (b || has_listed p ts) (rs ++ replies_in ts) (after_turns p ts).start_seq
-turns_report p b rs [] h k =
-    let none : Reported (b || false) rs p.start_seq = subst (λ (a : Bool). Reported a rs p.start_seq) (sym (or_none b)) k in
-    subst (λ (xs : Taken). Reported (b || false) xs p.start_seq) (sym (append-nil rs)) none
-turns_report p b rs (answered status body ∷ ts) h k =
+-- what is known of a pass of a configuration, and the start that it reports
+abbrev Known : PassConfiguration → Pass → Bool → Taken → Type 0
+Known c p b rs = (p.configuration ≡ c) × Standing p.phase p rs × Reported c.is_from_start b rs p.start_seq
+
+known_on : (c d : PassConfiguration) (b : Bool) (rs : Taken) (n : ℕ) → c ≡ d → Reported c.is_from_start b rs n → Reported d.is_from_start b rs n
+known_on c d b rs n e h = subst (λ (k : PassConfiguration). Reported k.is_from_start b rs n) e h
+
+turns_report : (c : PassConfiguration) (p : Pass) (b : Bool) (rs : Taken) (ts : List Turn) → Known c p b rs
+    → Reported c.is_from_start (b || has_listed p ts) (rs ++ replies_in ts) (after_turns p ts).start_seq
+turns_report c p b rs [] h =
+    let none : Reported c.is_from_start (b || false) rs p.start_seq = subst (λ (a : Bool). Reported c.is_from_start a rs p.start_seq) (sym (or_none b)) h.2 in
+    subst (λ (xs : Taken). Reported c.is_from_start (b || false) xs p.start_seq) (sym (append-nil rs)) none
+turns_report c p b rs (answered status body ∷ ts) h =
     let q = after_turn p (answered status body) in
     let one = lists_at p (answered status body) in
     let more = rs ++ (status, body) ∷ [] in
-    let on : Reported ((b || one) || has_listed q ts) (more ++ replies_in ts) (after_turns q ts).start_seq =
-    turns_report q (b || one) more ts (answer_stands p.phase p rs status body refl h) (answer_reports p.phase p b rs status body h k) in
-    subst (λ (xs : Taken). Reported (b || (one || has_listed q ts)) xs (after_turns q ts).start_seq) (append_assoc rs ((status, body) ∷ []) (replies_in ts))
-    (subst (λ (a : Bool). Reported a (more ++ replies_in ts) (after_turns q ts).start_seq) (or_assoc b one (has_listed q ts)) on)
-turns_report p b rs (lost ∷ ts) h k =
+    let same : q.configuration ≡ p.configuration = answer_told p.phase p status body in
+    let known : Known c q (b || one) more = (same ∙ h.0, answer_stands p.phase p rs status body refl h.1,
+        known_on p.configuration c (b || one) more q.start_seq h.0
+        (answer_reports p.phase p b rs status body h.1 (known_on c p.configuration b rs p.start_seq (sym h.0) h.2))) in
+    let on : Reported c.is_from_start ((b || one) || has_listed q ts) (more ++ replies_in ts) (after_turns q ts).start_seq = turns_report c q (b || one) more ts known in
+    subst (λ (xs : Taken). Reported c.is_from_start (b || (one || has_listed q ts)) xs (after_turns q ts).start_seq) (append_assoc rs ((status, body) ∷ []) (replies_in ts))
+    (subst (λ (a : Bool). Reported c.is_from_start a (more ++ replies_in ts) (after_turns q ts).start_seq) (or_assoc b one (has_listed q ts)) on)
+turns_report c p b rs (lost ∷ ts) h =
     let q = lost_of p in
-    subst (λ (a : Bool). Reported a (rs ++ replies_in ts) (after_turns q ts).start_seq) (or_assoc b false (has_listed q ts))
-    (turns_report q (b || false) rs ts (lost_stands p rs h) (lost_reports p b rs k))
+    let known : Known c q (b || false) rs = (loss_told p ∙ h.0, lost_stands p rs h.1,
+        known_on p.configuration c (b || false) rs q.start_seq h.0 (lost_reports p b rs (known_on c p.configuration b rs p.start_seq (sym h.0) h.2))) in
+    subst (λ (a : Bool). Reported c.is_from_start a (rs ++ replies_in ts) (after_turns q ts).start_seq) (or_assoc b false (has_listed q ts))
+    (turns_report c q (b || false) rs ts known)
 
-reported : (b : Bool) (rs : Taken) (n : ℕ) → Reported b rs n → n ≡ cond b (start_by rs) 0
-reported false rs n h = h
-reported true rs n h = h.is ∙ sym (ap start_by h.are)
+reported : (c : PassConfiguration) (b : Bool) (rs : Taken) (n : ℕ) → Reported c.is_from_start b rs n → n ≡ cond b (start_by c rs) 0
+reported c false rs n h = h
+reported c true rs n h = h.is ∙ sym (ap (start_by c) h.are)
 
-pub start_is : (c : PassConfiguration) (ts : List Turn) → (after_turns (first_pass c) ts).start_seq ≡ cond (has_listed (first_pass c) ts) (start_by (replies_in ts)) 0
+pub start_is : (c : PassConfiguration) (ts : List Turn) → (after_turns (first_pass c) ts).start_seq ≡ cond (has_listed (first_pass c) ts) (start_by c (replies_in ts)) 0
 start_is c ts =
-    reported (has_listed (first_pass c) ts) (replies_in ts) (after_turns (first_pass c) ts).start_seq (turns_report (first_pass c) false [] ts refl refl)
+    reported c (has_listed (first_pass c) ts) (replies_in ts) (after_turns (first_pass c) ts).start_seq (turns_report c (first_pass c) false [] ts (refl, refl, refl))

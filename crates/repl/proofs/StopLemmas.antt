@@ -4,10 +4,10 @@ use Rattle.std.specs.Prelude.{⊤, option_and_then}
 use Rattle.couch_json.specs.Value.{Value}
 use Rattle.repl.specs.Calls.{Revisions}
 use Rattle.repl.specs.Configuration.{PassConfiguration}
-use Rattle.repl.specs.Passes.{Pass, answered_in, answered_of, first_pass, is_written, lost_in, lost_of, most_losses, pass_after, phase_after_list, phase_after_loss, phase_after_round, phase_with, stopped_at, with_changes, with_lacking, with_failures, with_loss, with_opened, with_source, with_source_reread, with_source_written, with_target, with_target_reread, with_target_written}
-use Rattle.repl.specs.Replies.{changes_in_reply, changes_listed, checkpoint_read, checkpoint_written, differences_in_reply, differences_read, documents_of_opened, documents_pushed, failure_in, is_missing, nothing_stored, opened_in, revision_in_reply, revisions_opened, said_at, said_or_reply, stored_in, value_in}
+use Rattle.repl.specs.Passes.{Pass, answered_in, answered_of, answers_list, answers_open, answers_push, failures_taken, first_pass, list_taken, opened_taken, where_answers, is_written, lost_in, lost_of, most_losses, pass_after, phase_after_list, phase_after_loss, phase_after_round, phase_with, stopped_at, with_changes, with_lacking, with_failures, with_loss, with_opened, with_source, with_source_reread, with_source_written, with_target, with_target_reread, with_target_written}
+use Rattle.repl.specs.Replies.{changes_in_reply, checkpoint_read, checkpoint_written, differences_in_reply, differences_read, documents_of_opened, failure_in, is_missing, nothing_stored, opened_in, revision_in_reply, said_at, said_or_reply, stored_in, value_in}
 use Rattle.repl.specs.Shapes.{list_in}
-use Rattle.repl.specs.Causes.{HasCause, IsCause, IsFault, expects, has_shape, is_of, losses_in, says_none}
+use Rattle.repl.specs.Causes.{HasCause, IsCause, IsFault, expects, has_shape, is_of, losses_in, says_none, shape_within}
 use Rattle.repl.specs.Turns.{Turn, after_turn, after_turns, answered, lost}
 use Rattle.repl.specs.declared.phase.Phase.{Phase}
 use Rattle.repl.specs.declared.phase.Phase.TheVariants.{ReadSource, ReadTarget, ListChanges, Compare, Open, Push, WriteSource, WriteTarget, RereadSource, RereadTarget, Done, Stopped}
@@ -60,6 +60,28 @@ checkpoint_fault status body why e = by (status == 404 && is_missing body) (stat
     by false true is h k = subst (λ (x : Bool). IsFault why status x (is_of stored_in body)) is (h k)
     by false false is h k = subst (λ (x : Bool). IsFault why status x (is_of stored_in body)) is (h k)
 
+-- a value of a shape that doesn't answer what was asked is of another shape
+within_fault : {A : Type 0} (answers : A → Bool) (status : ℕ) (b : Bool) (o : Option A) (why : Why)
+    → where_answers answers (cond b (said_or_reply o) (Err (Status status))) ≡ Err why → IsFault why status b (is_some (shape_within answers o))
+within_fault answers status true None why e = fault_of {A = ⊤} status true None why (ap (λ (w : Why). ill {A = ⊤} w) (same_fault Reply why e))
+within_fault {A} answers status true (Some a) why e = by (answers a) e
+  where
+    by : (b : Bool) → cond b (fine a) (ill Reply) ≡ ill why → IsFault why status true (is_some (cond b (Some a) None))
+    by true k = absurd (never a why k)
+    by false k = subst (λ (w : Why). IsFault w status true false) (same_fault {A = A} Reply why k) (refl, refl)
+within_fault {A} answers status false o why e = subst (λ (w : Why). IsFault w status false (is_some (shape_within answers o))) (same_fault {A = A} (Status status) why e) (refl, refl)
+
+then_within : {A : Type 0} (answers : A → Bool) (shape : Value → Option A) (o : Option Value)
+    → shape_within answers (option_and_then (λ v. shape v) o) ≡ option_and_then (λ v. shape_within answers (shape v)) o
+then_within answers shape None = refl
+then_within answers shape (Some v) = refl
+
+taken_fault : {A : Type 0} (answers : A → Bool) (expected : ℕ) (shape : Value → Option A) (status : ℕ) (body : List ℕ) (why : Why)
+    → where_answers answers (said_at expected shape status body) ≡ Err why → IsFault why status (status == expected) (is_of (λ v. shape_within answers (shape v)) body)
+taken_fault {A} answers expected shape status body why e =
+    subst (λ (o : Option A). IsFault why status (status == expected) (is_some o)) (then_within answers shape (value_in body))
+    (within_fault answers status (status == expected) (option_and_then (λ v. shape v) (value_in body)) why e)
+
 -- ---- what becomes of a reply
 
 -- the pass stopped because of this reply, or goes on with its losses
@@ -93,13 +115,13 @@ answer_came : (f : Phase) (p : Pass) (status : ℕ) (body : List ℕ) → p.phas
 answer_came ReadSource p status body e going = came with_source p (checkpoint_read status body) status _ _ (checkpoint_fault status body) (λ a. refl) (λ a. refl)
 answer_came ReadTarget p status body e going = came with_target p (checkpoint_read status body) status _ _ (checkpoint_fault status body) (λ a. refl) (λ a. refl)
 answer_came ListChanges p status body e going =
-    came with_changes p (changes_listed status body) status _ _ (said_fault 200 changes_in_reply status body) (λ a. after_list a.leaves) (λ a. refl)
+    came with_changes p (list_taken p status body) status _ _ (taken_fault (λ c. answers_list p c) 200 changes_in_reply status body) (λ a. after_list a.leaves) (λ a. refl)
 answer_came Compare p status body e going =
     came with_lacking p (differences_read p.leaves status body) status _ _ (said_fault 200 (λ v. differences_in_reply p.leaves v) status body) (λ a. after_some a p.documents) (λ a. refl)
 answer_came Open p status body e going =
-    came with_opened p (revisions_opened status body) status _ _ (said_fault 200 (λ v. list_in opened_in v) status body) (λ a. after_some _ (p.documents ++ documents_of_opened a)) (λ a. refl)
+    came with_opened p (opened_taken p status body) status _ _ (taken_fault (λ opened. answers_open p opened) 200 (λ v. list_in opened_in v) status body) (λ a. after_some _ (p.documents ++ documents_of_opened a)) (λ a. refl)
 answer_came Push p status body e going =
-    came with_failures p (documents_pushed status body) status _ _ (said_fault 201 (λ v. list_in failure_in v) status body) (λ a. refl) (λ a. refl)
+    came with_failures p (failures_taken p status body) status _ _ (taken_fault (λ failures. answers_push p failures) 201 (λ v. list_in failure_in v) status body) (λ a. refl) (λ a. refl)
 answer_came WriteSource p status body e going = came with_source_written p (checkpoint_written status body) status _ _ (said_fault 201 revision_in_reply status body) (λ a. refl) (λ a. refl)
 answer_came WriteTarget p status body e going = came with_target_written p (checkpoint_written status body) status _ _ (said_fault 201 revision_in_reply status body) (λ a. after_round p.is_full) (λ a. refl)
 answer_came RereadSource p status body e going =

@@ -1,8 +1,8 @@
 -- Why a pass stops: which replies it expects, and how many losses it bears.
 -- CouchDB manual, the pages of the calls, for statuses and bodies; how losses are counted is this project's own.
-use Rattle.std.specs.Prelude.{◌≡◌, ℕ, ◌+◌, ◌==◌, ◌||◌, ◌&&◌, Bool, true, false, is_some, List, [], ◌∷◌, ◌++◌, Option, option_and_then}
+use Rattle.std.specs.Prelude.{◌≡◌, ℕ, ◌+◌, ◌==◌, ◌||◌, ◌&&◌, Bool, true, false, is_some, List, [], ◌∷◌, ◌++◌, Option, Some, None, option_and_then, if◌then◌else◌}
 use Rattle.couch_json.specs.Value.{Value}
-use Rattle.repl.specs.Passes.{Pass, most_losses}
+use Rattle.repl.specs.Passes.{Pass, answers_list, answers_open, answers_push, most_losses}
 use Rattle.repl.specs.Replies.{changes_in_reply, differences_in_reply, failure_in, is_missing, opened_in, revision_in_reply, stored_in, value_in}
 use Rattle.repl.specs.Shapes.{list_in}
 use Rattle.repl.specs.Turns.{Turn, after_turns, answered, lost}
@@ -36,14 +36,19 @@ expects (Stopped why) status body = true
 abbrev pub is_of : {A : Type 0} → (Value → Option A) → List ℕ → Bool
 is_of shape body = is_some (option_and_then (λ v. shape v) (value_in body))
 
--- the body has the shape that a phase asks for
+-- what a shape says, where it answers what was asked
+abbrev pub shape_within : {A : Type 0} → (A → Bool) → Option A → Option A
+shape_within answers None = None
+shape_within answers (Some a) = if answers a then Some a else None
+
+-- the body has the shape that a phase asks for, and doesn't go beyond what was asked
 abbrev pub has_shape : Phase → Pass → ℕ → List ℕ → Bool
 has_shape ReadSource p status body = says_none status body || is_of stored_in body
 has_shape ReadTarget p status body = says_none status body || is_of stored_in body
-has_shape ListChanges p status body = is_of changes_in_reply body
+has_shape ListChanges p status body = is_of (λ v. shape_within (λ c. answers_list p c) (changes_in_reply v)) body
 has_shape Compare p status body = is_of (λ v. differences_in_reply p.leaves v) body
-has_shape Open p status body = is_of (λ v. list_in opened_in v) body
-has_shape Push p status body = is_of (λ v. list_in failure_in v) body
+has_shape Open p status body = is_of (λ v. shape_within (λ opened. answers_open p opened) (list_in opened_in v)) body
+has_shape Push p status body = is_of (λ v. shape_within (λ failures. answers_push p failures) (list_in failure_in v)) body
 has_shape WriteSource p status body = is_of revision_in_reply body
 has_shape WriteTarget p status body = is_of revision_in_reply body
 has_shape RereadSource p status body = says_none status body || is_of stored_in body

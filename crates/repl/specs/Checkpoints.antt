@@ -1,7 +1,7 @@
 -- What a side remembers of the passes that ended there, and where a pass begins.
 -- CouchDB manual, replication/protocol ("Retrieve Replication Logs from Source and Target", "Compare Replication Logs",
 -- "Record Replication Checkpoint"); that other members are not looked at, and the 50 sessions, are this server's own.
-use Rattle.std.specs.Prelude.{ℕ, min, not, List, [], ◌∷◌, map, take, filter, pos, Option, Some, None, option_and_then, option_map, bytes_eq, if◌then◌else◌, codes}
+use Rattle.std.specs.Prelude.{ℕ, Bool, min, not, List, [], ◌∷◌, map, take, filter, pos, Option, Some, None, option_and_then, option_map, bytes_eq, if◌then◌else◌, codes}
 use Rattle.couch_json.specs.Canonical.{canonical}
 use Rattle.couch_json.specs.Value.{Value, null, whole, text, array, object, no_items, item, Members, no_members, put}
 use Rattle.couch_json.specs.View.{items_of}
@@ -70,6 +70,10 @@ abbrev pub start_of : Option Checkpoint → Option Checkpoint → ℕ
 start_of None target = 0
 start_of (Some source) None = 0
 start_of (Some source) (Some target) = start_from source target
+
+-- the same for a pass that may be told to begin at 0
+abbrev pub start_with : Bool → Option Checkpoint → Option Checkpoint → ℕ
+start_with is_from_start source target = if is_from_start then 0 else start_of source target
 
 -- ---- the next checkpoint
 

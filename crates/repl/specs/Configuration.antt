@@ -1,6 +1,6 @@
--- What a pass is told: the two databases, the user in whose name it asks, its session, and how much it lists at a time.
+-- What a pass is told: the two databases, the user in whose name it asks, its session, how much it lists at a time, and whether it begins at 0.
 -- CouchDB manual, replication/protocol ("Replication ID") and api/server/authn ("Proxy Authentication"); a batch's bounds are this project's own.
-use Rattle.std.specs.Prelude.{ℕ, ◌&&◌, List, map, nat_le, Option, Some, None, option_map, string_bytes, if◌then◌else◌}
+use Rattle.std.specs.Prelude.{ℕ, Bool, ◌&&◌, List, map, nat_le, Option, Some, None, option_map, string_bytes, if◌then◌else◌}
 use Rattle.repl.specs.declared.batch.Batch.{Batch}
 use Rattle.repl.specs.declared.config.Config.{Config}
 use Rattle.repl.specs.declared.config.User.{User}
@@ -13,8 +13,8 @@ pub record Account : Type 0 where
   pub roles : List (List ℕ)
   pub token : List ℕ
 
--- a pass: the texts that name its two sides, the databases' names, its user, its session, and how many changes it lists at a
--- time, where it doesn't list all at once
+-- a pass: the texts that name its two sides, the databases' names, its user, its session, how many changes it lists at a
+-- time, where it doesn't list all at once, and whether it begins at 0, whatever the checkpoints say
 pub record PassConfiguration : Type 0 where
   pub source : List ℕ
   pub source_db : List ℕ
@@ -23,6 +23,7 @@ pub record PassConfiguration : Type 0 where
   pub user : Option Account
   pub session : List ℕ
   pub batch : Option ℕ
+  pub is_from_start : Bool
 
 -- the database of a side
 abbrev pub database_of_side : PassConfiguration → Side → List ℕ
@@ -55,4 +56,5 @@ configuration_of c = record {
   user = option_map account_of c.user;
   session = string_bytes c.session;
   batch = option_map batch_size c.batch;
+  is_from_start = c.is_from_start;
 }

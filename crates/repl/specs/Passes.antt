@@ -1,11 +1,11 @@
 -- A pass of replication: what it asks, and what each reply makes of it.
 -- CouchDB manual, replication/protocol. How losses are counted, and that a checkpoint whose write was lost is read again, are this project's own.
-use Rattle.std.specs.Prelude.{ℕ, ◌+◌, ◌==◌, ◌&&◌, Bool, false, min, nat_le, List, [], ◌∷◌, ◌++◌, length, drop, pos, Option, Some, None, Result, Ok, Err, bytes_eq, if◌then◌else◌, codes, true}
+use Rattle.std.specs.Prelude.{ℕ, ◌+◌, ◌==◌, ◌&&◌, ◌||◌, Bool, false, not, min, nat_le, nat_lt, List, [], ◌∷◌, ◌++◌, length, drop, pos, Option, Some, None, Result, Ok, Err, bytes_eq, if◌then◌else◌, codes, true}
 use Rattle.couch_json.specs.Value.{Value, whole, array, object, no_members, put}
 use Rattle.couch_json.specs.View.{items_of}
 use Rattle.couch_http.specs.Message.{Message}
 use Rattle.repl.specs.Calls.{Call, Revisions, read_checkpoint, write_checkpoint, list_changes, compare_revisions, open_revisions, push_documents, request_of}
-use Rattle.repl.specs.Checkpoints.{Checkpoint, checkpoint_id, history_of, next_checkpoint, start_of}
+use Rattle.repl.specs.Checkpoints.{Checkpoint, checkpoint_id, history_of, next_checkpoint, start_with}
 use Rattle.repl.specs.Configuration.{PassConfiguration}
 use Rattle.repl.specs.Replies.{Changes, Opened, Stored, changes_listed, checkpoint_read, checkpoint_written, differences_read, documents_of_opened, documents_pushed, missing_reports, revisions_opened}
 use Rattle.couch_json.specs.Range.{greatest_count}
@@ -14,7 +14,7 @@ use Rattle.repl.specs.declared.phase.Phase.TheVariants.{ReadSource, ReadTarget, 
 use Rattle.repl.specs.declared.side.Side.{Side}
 use Rattle.repl.specs.declared.side.Side.TheVariants.{Source, Target}
 use Rattle.repl.specs.declared.why.Why.{Why}
-use Rattle.repl.specs.declared.why.Why.TheVariants.{Lost}
+use Rattle.repl.specs.declared.why.Why.TheVariants.{Lost, Reply}
 
 -- where a pass stands
 pub record Pass : Type 0 where
@@ -162,13 +162,13 @@ pass_after take p (Err why) = stopped_at p why
 abbrev pub with_source : Pass → Stored → Pass
 with_source p s = record p { phase = ReadTarget; older = s.checkpoint; source_revision = s.revision }
 
--- the target's checkpoint is read: the changes are listed from the common sequence on
+-- the target's checkpoint is read: the changes are listed from the common sequence on, or from 0 on
 abbrev pub with_target : Pass → Stored → Pass
 with_target p s = record p {
   phase = ListChanges;
   target_revision = s.revision;
-  start = start_of p.older s.checkpoint;
-  since = start_of p.older s.checkpoint;
+  start = start_with p.configuration.is_from_start p.older s.checkpoint;
+  since = start_with p.configuration.is_from_start p.older s.checkpoint;
 }
 
 -- where nothing was listed, the pass is done
@@ -258,14 +258,54 @@ with_target_reread p s = record p {
   target_revision = s.revision;
 }
 
+-- ---- replies that answer what was asked
+
+-- what a reply says, where it answers what was asked: what goes beyond that is of another shape
+abbrev pub where_answers : {A : Type 0} → (A → Bool) → Result A Why → Result A Why
+where_answers answers (Ok a) = if answers a then Ok a else Err Reply
+where_answers answers (Err why) = Err why
+
+-- a list has at most as many documents as a batch has
+abbrev pub is_within : Option ℕ → List Revisions → Bool
+is_within None leaves = true
+is_within (Some size) leaves = nat_le (length leaves) size
+
+-- a list that is full ends above the sequence after which it begins, so the next one lists others
+abbrev pub goes_on : ℕ → Option ℕ → Changes → Bool
+goes_on since batch c = not (fills batch c.leaves) || nat_lt since c.sequence
+
+-- the changes that were asked for
+abbrev pub answers_list : Pass → Changes → Bool
+answers_list p c = is_within p.configuration.batch c.leaves && goes_on p.since p.configuration.batch c
+
+-- no more revisions of a document than were asked for
+abbrev pub answers_open : Pass → List Opened → Bool
+answers_open p opened = nat_le (length opened) (length (first_of_pending p.pending).revisions)
+
+-- no more failures than documents were pushed
+abbrev pub answers_push : Pass → List Value → Bool
+answers_push p failures = nat_le (length failures) (length p.documents)
+
+-- the changes that are taken in
+abbrev pub list_taken : Pass → ℕ → List ℕ → Result Changes Why
+list_taken p status body = where_answers (λ c. answers_list p c) (changes_listed status body)
+
+-- the opened revisions that are taken in
+abbrev pub opened_taken : Pass → ℕ → List ℕ → Result (List Opened) Why
+opened_taken p status body = where_answers (λ opened. answers_open p opened) (revisions_opened status body)
+
+-- the failures that are taken in
+abbrev pub failures_taken : Pass → ℕ → List ℕ → Result (List Value) Why
+failures_taken p status body = where_answers (λ failures. answers_push p failures) (documents_pushed status body)
+
 -- the pass after a reply to what it asks in a phase
 abbrev pub answered_in : Phase → Pass → ℕ → List ℕ → Pass
 answered_in ReadSource p status body = pass_after with_source p (checkpoint_read status body)
 answered_in ReadTarget p status body = pass_after with_target p (checkpoint_read status body)
-answered_in ListChanges p status body = pass_after with_changes p (changes_listed status body)
+answered_in ListChanges p status body = pass_after with_changes p (list_taken p status body)
 answered_in Compare p status body = pass_after with_lacking p (differences_read p.leaves status body)
-answered_in Open p status body = pass_after with_opened p (revisions_opened status body)
-answered_in Push p status body = pass_after with_failures p (documents_pushed status body)
+answered_in Open p status body = pass_after with_opened p (opened_taken p status body)
+answered_in Push p status body = pass_after with_failures p (failures_taken p status body)
 answered_in WriteSource p status body = pass_after with_source_written p (checkpoint_written status body)
 answered_in WriteTarget p status body = pass_after with_target_written p (checkpoint_written status body)
 answered_in RereadSource p status body = pass_after with_source_reread p (checkpoint_read status body)
@@ -275,6 +315,16 @@ answered_in ended p status body = p
 -- the pass after a reply
 abbrev pub answered_of : Pass → ℕ → List ℕ → Pass
 answered_of p status body = answered_in p.phase p status body
+
+-- a pass in a phase after a reply that can't be read: where it goes on, it has stopped
+abbrev pub unreadable_in : Phase → Pass → Pass
+unreadable_in Done p = p
+unreadable_in (Stopped why) p = p
+unreadable_in phase p = stopped_at p Reply
+
+-- the pass after a reply that can't be read
+abbrev pub unreadable_of : Pass → Pass
+unreadable_of p = unreadable_in p.phase p
 
 -- ---- losses
 

@@ -1,7 +1,7 @@
 -- What the reply to each call says: one function for each, over its status and the bytes of its body.
 -- CouchDB manual, api/local, api/database/changes, api/database/misc (`_revs_diff`), api/document/common (`open_revs`) and
 -- api/database/bulk-api. Members that are not named here are not looked at, but in the elements of `open_revs`.
-use Rattle.std.specs.Prelude.{ℕ, Bool, true, false, ◌==◌, ◌&&◌, List, [], ◌∷◌, Option, Some, None, option_map, option_and_then, unwrap_or, Result, Ok, Err, bytes_eq, is_some, if◌then◌else◌, codes}
+use Rattle.std.specs.Prelude.{ℕ, Bool, true, false, ◌==◌, ◌&&◌, List, [], ◌∷◌, ◌++◌, length, Option, Some, None, option_map, option_and_then, unwrap_or, Result, Ok, Err, bytes_eq, is_some, if◌then◌else◌, codes}
 use Rattle.couch_json.specs.Parts.{has_only, is_object, is_there_and, members_in, text_in}
 use Rattle.couch_json.specs.Reading.{reading, value_read}
 use Rattle.couch_json.specs.Value.{Value, null, text, object, Members, no_members, member, member_of, put}
@@ -108,15 +108,30 @@ are_missing_lists (member name v ms) = is_some (missing_in v) && are_missing_lis
 abbrev pub missing_of : List ℕ → Value → List (List ℕ)
 missing_of id v = unwrap_or (option_and_then (λ w. missing_in w) (member_of v id)) []
 
--- a document, unless nothing of it is missing
-abbrev pub unless_empty : List ℕ → List (List ℕ) → List Revisions → List Revisions
-unless_empty id [] others = others
-unless_empty id (r ∷ rs) others = record { id = id; revisions = r ∷ rs } ∷ others
+-- how many revisions of a document are asked for at once: so many stand in one query
+abbrev pub most_revisions : ℕ
+most_revisions = 100
 
--- what is missing of the documents listed, in their order
+-- a group, unless it is empty
+abbrev pub unless_empty : List (List ℕ) → List (List (List ℕ))
+unless_empty [] = []
+unless_empty (r ∷ rs) = (r ∷ rs) ∷ []
+
+-- revisions behind a group that was begun, in groups as large as may be, in their order
+abbrev pub groups_from : List (List ℕ) → List (List ℕ) → List (List (List ℕ))
+groups_from group [] = unless_empty group
+groups_from group (r ∷ rs) =
+    if length group == most_revisions then group ∷ groups_from (r ∷ []) rs else groups_from (group ++ r ∷ []) rs
+
+-- each group, as revisions of a document, before others
+abbrev pub of_document : List ℕ → List (List (List ℕ)) → List Revisions → List Revisions
+of_document id [] others = others
+of_document id (g ∷ gs) others = record { id = id; revisions = g } ∷ of_document id gs others
+
+-- what is missing of the documents listed, in their order and in groups
 abbrev pub missing_of_each : Value → List Revisions → List Revisions
 missing_of_each v [] = []
-missing_of_each v (l ∷ ls) = unless_empty l.id (missing_of l.id v) (missing_of_each v ls)
+missing_of_each v (l ∷ ls) = of_document l.id (groups_from [] (missing_of l.id v)) (missing_of_each v ls)
 
 -- what is missing, where the value is an object of such lists
 abbrev pub has_missing_lists : Value → Bool

@@ -2,9 +2,10 @@
 -- CouchDB manual, replication/protocol; that revisions which can't be opened are reported is this project's own.
 use Rattle.std.specs.Prelude.{ℕ, ◌||◌, Bool, false, List, [], ◌∷◌, ◌++◌, Option, None, Result, Ok, Err, is_ok}
 use Rattle.couch_json.specs.Value.{Value}
-use Rattle.repl.specs.Checkpoints.{Checkpoint, start_of}
-use Rattle.repl.specs.Passes.{Pass, answered_of, first_of_pending, lost_of}
-use Rattle.repl.specs.Replies.{Stored, changes_listed, checkpoint_read, documents_pushed, missing_reports, revisions_opened}
+use Rattle.repl.specs.Checkpoints.{Checkpoint, start_with}
+use Rattle.repl.specs.Configuration.{PassConfiguration}
+use Rattle.repl.specs.Passes.{Pass, answered_of, failures_taken, first_of_pending, list_taken, lost_of, opened_taken}
+use Rattle.repl.specs.Replies.{Stored, checkpoint_read, missing_reports}
 use Rattle.repl.specs.declared.phase.Phase.{Phase}
 use Rattle.repl.specs.declared.phase.Phase.TheVariants.{ReadSource, ReadTarget, ListChanges, Compare, Open, Push, WriteSource, WriteTarget, RereadSource, RereadTarget, Done, Stopped}
 use Rattle.repl.specs.declared.why.Why.{Why}
@@ -37,8 +38,8 @@ told_in ReadSource p status body = []
 told_in ReadTarget p status body = []
 told_in ListChanges p status body = []
 told_in Compare p status body = []
-told_in Open p status body = where_said (λ opened. missing_reports (first_of_pending p.pending).id opened) (revisions_opened status body)
-told_in Push p status body = where_said (λ failures. failures) (documents_pushed status body)
+told_in Open p status body = where_said (λ opened. missing_reports (first_of_pending p.pending).id opened) (opened_taken p status body)
+told_in Push p status body = where_said (λ failures. failures) (failures_taken p status body)
 told_in WriteSource p status body = []
 told_in WriteTarget p status body = []
 told_in RereadSource p status body = []
@@ -57,14 +58,14 @@ told_of p (t ∷ ts) = told_at p t ++ told_of (after_turn p t) ts
 
 -- ---- where it starts
 
--- a reply in a phase is a list of changes, of the form that is expected
-abbrev pub lists_in : Phase → ℕ → List ℕ → Bool
-lists_in ListChanges status body = is_ok (changes_listed status body)
-lists_in phase status body = false
+-- a reply in a phase is a list of changes that is taken in
+abbrev pub lists_in : Phase → Pass → ℕ → List ℕ → Bool
+lists_in ListChanges p status body = is_ok (list_taken p status body)
+lists_in phase p status body = false
 
 -- the turn brings a list of changes
 abbrev pub lists_at : Pass → Turn → Bool
-lists_at p (answered status body) = lists_in p.phase status body
+lists_at p (answered status body) = lists_in p.phase p status body
 lists_at p lost = false
 
 -- at one of these turns a list of changes was taken in
@@ -87,8 +88,8 @@ stored_said (Err why) = None
 abbrev pub checkpoint_said : ℕ × List ℕ → Option Checkpoint
 checkpoint_said reply = stored_said (checkpoint_read reply.0 reply.1)
 
--- the start by the first two replies, the source's and the target's
-abbrev pub start_by : List (ℕ × List ℕ) → ℕ
-start_by [] = 0
-start_by (source ∷ []) = 0
-start_by (source ∷ target ∷ others) = start_of (checkpoint_said source) (checkpoint_said target)
+-- the start of a pass of this configuration by the first two replies, the source's and the target's; 0 where it is told so
+abbrev pub start_by : PassConfiguration → List (ℕ × List ℕ) → ℕ
+start_by c [] = 0
+start_by c (source ∷ []) = 0
+start_by c (source ∷ target ∷ others) = start_with c.is_from_start (checkpoint_said source) (checkpoint_said target)

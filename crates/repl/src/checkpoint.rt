@@ -7,7 +7,7 @@ ghost use Rattle.md5.specs.Md5.{md5};
 ghost use Rattle.couch_json.specs.Canonical.{canonical};
 ghost use Rattle.couch_json.specs.View.{members_view, view};
 ghost use Rattle.repl.specs.Checkpoints.{Session, checkpoint_id, checkpoint_in, common_sequence, history_of, name_or_null, next_checkpoint, next_history};
-ghost use Rattle.repl.specs.Checkpoints.{others_of, replication_value, sequence_of_session, session_in, session_value, start_from, start_of, with_revision};
+ghost use Rattle.repl.specs.Checkpoints.{others_of, replication_value, sequence_of_session, session_in, session_value, start_from, start_of, start_with, with_revision};
 ghost use Rattle.repl.specs.Configuration.{account_of, configuration_of};
 ghost use Rattle.repl.specs.Kept.{checkpoint_of, sequence_at, session_of};
 ghost use Rattle.repl.specs.Shapes.{count_at, list_at, list_in, text_at};
@@ -107,8 +107,24 @@ impl Shape for SessionShape {
     }
 }
 
-/// Finds the sequence after which a pass begins.
-pub fn start_of(
+/// Finds the sequence after which a pass begins: 0 where it is told so.
+pub fn start_with(
+    alloc: Global,
+    is_from_start: bool,
+    source: &Option<KeptCheckpoint>,
+    target: &Option<KeptCheckpoint>,
+) -> Got<Count>
+    ensures { IfOk result
+        (λ start. start.value ≡ start_with is_from_start (option_map checkpoint_of source.now) (option_map checkpoint_of target.now)) }
+{
+    if is_from_start {
+        return Ok(Count::ZERO);
+    }
+    start_of(alloc, source, target)
+}
+
+/// Finds the sequence after which a pass begins by the checkpoints.
+fn start_of(
     alloc: Global,
     source: &Option<KeptCheckpoint>,
     target: &Option<KeptCheckpoint>,

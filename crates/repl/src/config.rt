@@ -40,6 +40,8 @@ pub struct Config {
     pub session: String,
     /// How many changes are listed at a time; without one, all are listed at once.
     pub batch: Option<Batch>,
+    /// The pass begins at the sequence 0, whatever the checkpoints say.
+    pub is_from_start: bool,
 }
 
 // Written out, so that callers do not prove again how each part is dropped.
@@ -53,6 +55,7 @@ impl Drop for Config {
             user: _,
             session: _,
             batch: _,
+            is_from_start: _,
         } = self;
     }
 }

@@ -27,10 +27,11 @@ pub fn reports_are_told()
 {}
 
 /// Once a list of changes was taken in, the start is that of the first two replies, which are the
-/// checkpoints of the two sides; before, it is 0. This is so of a pass that has stopped, too.
+/// checkpoints of the two sides; before, it is 0. A pass that is told to begin at 0 begins there. This is so
+/// of a pass that has stopped, too.
 pub fn start_is_that_of_the_checkpoints()
     ensures { (c : PassConfiguration) (ts : List Turn) → (after_turns (first_pass c) ts).start_seq
-        ≡ (if has_listed (first_pass c) ts then start_by (replies_in ts) else 0) }
+        ≡ (if has_listed (first_pass c) ts then start_by c (replies_in ts) else 0) }
 {}
 
 /// A pass that has stopped met the cause at one of its turns: a reply of a status that is not expected,

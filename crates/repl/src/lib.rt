@@ -10,6 +10,7 @@ mod config;
 mod count;
 mod element;
 mod ending;
+mod groups;
 mod label;
 pub mod laws;
 mod members;

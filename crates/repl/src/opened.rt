@@ -1,14 +1,15 @@
 //! What the replies to a comparison and to opened revisions say.
 
-ghost use Rattle.std.specs.Prelude.{◌≡◌, ◌++◌, [], IfOk, OnOk, map, option_and_then, option_copied, option_map, string_bytes, codes, unwrap_or};
+ghost use Rattle.std.specs.Prelude.{◌≡◌, [], IfOk, map, option_and_then, option_copied, option_map, string_bytes, codes, unwrap_or};
 ghost use Rattle.couch_json.specs.View.{members_view, view};
 ghost use Rattle.repl.specs.Listed.{revisions_of};
 ghost use Rattle.repl.specs.Replies.{Opened, are_missing_lists, differences_in_reply, differences_read, has_missing_lists, missing_in, missing_of};
-ghost use Rattle.repl.specs.Replies.{missing_of_each, missing_report, opened_in, revisions_opened, unless_empty, opened_by, missing};
+ghost use Rattle.repl.specs.Replies.{missing_of_each, missing_report, opened_in, revisions_opened, opened_by, missing};
 ghost use Rattle.repl.specs.Shapes.{list_in, text_at};
 ghost use Rattle.repl.specs.Taken.{opened_of, said_as};
 
 use crate::element::{Shape, read_each};
+use crate::groups::push_groups;
 use crate::members::{put_text, text_at};
 use crate::replies::value_in;
 use crate::revisions::DocumentRevisions;
@@ -83,7 +84,8 @@ fn are_missing_lists(alloc: Global, members: &NameMap<Json>) -> Got<bool>
     Ok(true)
 }
 
-/// Lists what is missing of the documents, in their order.
+/// Lists what is missing of the documents, in their order and in groups.
+#[tactic(auto, using(crate::proofs::GroupLemmas::of_document_before))]
 fn missing_of_each(
     alloc: Global,
     value: &Json,
@@ -95,25 +97,9 @@ fn missing_of_each(
     let mut missing = VecDeque::new(alloc);
     for document in listed {
         let revisions = missing_of(alloc, value, document.id.as_str())?;
-        push_unless_empty(&mut missing, document.id.clone()?, revisions)?;
+        push_groups(alloc, &mut missing, document.id.as_str(), &revisions)?;
     }
     Ok(missing)
-}
-
-/// Adds a document, unless nothing of it is missing.
-fn push_unless_empty(
-    missing: &mut VecDeque<DocumentRevisions>,
-    id: String,
-    revisions: Vec<String>,
-) -> Got<()>
-    ensures { OnOk result (map revisions_of missing.new.items
-        ≡ map revisions_of missing.old.items ++ unless_empty (string_bytes id) (map string_bytes revisions.items) []) }
-{
-    if revisions.is_empty() {
-        return Ok(());
-    }
-    missing.push_back(DocumentRevisions { id, revisions })?;
-    Ok(())
 }
 
 /// Reads the missing revisions of the document of an id.

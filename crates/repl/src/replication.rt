@@ -1,6 +1,6 @@
 //! A pass of replication (CouchDB manual, replication/protocol).
 
-ghost use Rattle.std.specs.Prelude.{◌≡◌, if◌then◌else◌, IfOk, OnOk, OnErr, map, option_map, string_bytes};
+ghost use Rattle.std.specs.Prelude.{◌≡◌, if◌then◌else◌, IfOk, OnOk, OnErr, length, map, option_map, string_bytes};
 ghost use Rattle.couch_json.specs.View.{view};
 ghost use Rattle.couch_http.specs.Message.{message_of};
 ghost use Rattle.repl.specs.Asks.{ask_of, pass_of, report_of};
@@ -10,10 +10,10 @@ ghost use Rattle.repl.specs.Configuration.{batch_size, configuration_of};
 ghost use Rattle.repl.specs.Ending.{progress_of};
 ghost use Rattle.repl.specs.Kept.{checkpoint_of, session_of};
 ghost use Rattle.repl.specs.Listed.{revisions_of};
-ghost use Rattle.repl.specs.Passes.{answered_in, answered_of, asked_of, checkpoint_after, fills, first_of_pending, first_pass};
-ghost use Rattle.repl.specs.Passes.{has_ended, is_written, lost_of, phase_after_list, phase_after_round, with_failures};
+ghost use Rattle.repl.specs.Passes.{answered_in, answered_of, answers_list, asked_of, checkpoint_after, fills, first_of_pending, first_pass};
+ghost use Rattle.repl.specs.Passes.{has_ended, is_within, is_written, lost_of, unreadable_of, phase_after_list, phase_after_round, with_failures};
 ghost use Rattle.repl.specs.Passes.{with_opened, phase_after_loss, phase_with, sent_to, summary_of, with_loss};
-ghost use Rattle.repl.specs.Taken.{opened_of};
+ghost use Rattle.repl.specs.Taken.{changes_of, opened_of};
 
 use crate::ask::Ask;
 use crate::batch::Batch;
@@ -21,7 +21,7 @@ use crate::calls::{
     compare_revisions, list_changes, open_revisions, push_documents, read_checkpoint,
     write_checkpoint,
 };
-use crate::checkpoint::{KeptCheckpoint, KeptSession, checkpoint_id, next_checkpoint, start_of};
+use crate::checkpoint::{KeptCheckpoint, KeptSession, checkpoint_id, next_checkpoint, start_with};
 use crate::config::Config;
 use crate::count::Count;
 use crate::opened::{OpenedRevision, differences_read, revisions_opened};
@@ -29,7 +29,7 @@ use crate::opened_parts::{append_both, documents_of, missing_reports};
 use crate::phase::Phase;
 use crate::progress::Progress;
 use crate::pushed::documents_pushed;
-use crate::replies::{changes_listed, checkpoint_read, checkpoint_written};
+use crate::replies::{ChangesListed, changes_listed, checkpoint_read, checkpoint_written};
 use crate::report::Report;
 use crate::revisions::DocumentRevisions;
 use crate::side::Side;
@@ -285,7 +285,12 @@ impl Replication {
     {
         match checkpoint_read(self.alloc, status, body)? {
             Ok(found) => {
-                let start = start_of(self.alloc, &self.older, &found.checkpoint)?;
+                let start = start_with(
+                    self.alloc,
+                    self.config.is_from_start,
+                    &self.older,
+                    &found.checkpoint,
+                )?;
                 self.start = start;
                 self.since = start;
                 self.target_revision = found.revision;
@@ -306,6 +311,10 @@ impl Replication {
     {
         match changes_listed(self.alloc, status, body)? {
             Ok(changes) => {
+                if !self.answers_list(&changes) {
+                    self.phase = Phase::Stopped(Why::Reply);
+                    return Ok(());
+                }
                 self.phase = phase_after_list(&changes.leaves);
                 self.start_seq = self.start;
                 self.last_seq = changes.sequence;
@@ -318,6 +327,16 @@ impl Replication {
                 Ok(())
             }
         }
+    }
+
+    /// Tells whether a list has at most as many documents as were asked for, and ends above its beginning where
+    /// it is full.
+    fn answers_list(&self, changes: &ChangesListed) -> bool
+        ensures { result ≡ answers_list (pass_of self.now) (changes_of changes.now) }
+    {
+        is_within(&self.config.batch, &changes.leaves)
+            && (!fills(&self.config.batch, &changes.leaves)
+                || self.since.value() < changes.sequence.value())
     }
 
     /// Takes in what is missing at the target.
@@ -345,7 +364,13 @@ impl Replication {
         ensures err { OnErr result (pass_of self.new ≡ pass_of self.old) }
     {
         match revisions_opened(self.alloc, status, body)? {
-            Ok(opened) => { self.add_opened(&opened) }
+            Ok(opened) => {
+                if opened.len() > first_count(&self.pending) {
+                    self.phase = Phase::Stopped(Why::Reply);
+                    return Ok(());
+                }
+                self.add_opened(&opened)
+            }
             Err(why) => {
                 self.phase = Phase::Stopped(why);
                 Ok(())
@@ -359,7 +384,13 @@ impl Replication {
         ensures err { OnErr result (pass_of self.new ≡ pass_of self.old) }
     {
         match documents_pushed(self.alloc, status, body)? {
-            Ok(failures) => { self.add_failures(failures) }
+            Ok(failures) => {
+                if failures.len() > self.documents.len() {
+                    self.phase = Phase::Stopped(Why::Reply);
+                    return Ok(());
+                }
+                self.add_failures(failures)
+            }
             Err(why) => {
                 self.phase = Phase::Stopped(why);
                 Ok(())
@@ -535,6 +566,18 @@ impl Replication {
         }
     }
 
+    /// Takes in that the reply to what the pass asked can't be read: it is no reply, or none that the server may
+    /// give. A pass that goes on has stopped then. Takes no memory.
+    pub fn unreadable(&mut self)
+        ensures { pass_of self.new ≡ unreadable_of (pass_of self.old) }
+    {
+        match self.phase {
+            Phase::Done => {}
+            Phase::Stopped(_) => {}
+            _ => self.phase = Phase::Stopped(Why::Reply),
+        }
+    }
+
     /// Counts a loss.
     fn count_loss(&mut self)
         ensures { pass_of self.new ≡ with_loss (pass_of self.old) }
@@ -568,6 +611,16 @@ fn fills(batch: &Option<Batch>, leaves: &[DocumentRevisions]) -> bool
     match batch {
         Some(batch) => leaves.len() as u64 == batch.size(),
         None => false,
+    }
+}
+
+/// Tells whether a listing has at most as many results as a batch has. Without a batch it always has.
+fn is_within(batch: &Option<Batch>, leaves: &[DocumentRevisions]) -> bool
+    ensures { result ≡ is_within (option_map batch_size batch.now) (map revisions_of leaves.now) }
+{
+    match batch {
+        Some(batch) => leaves.len() as u64 <= batch.size(),
+        None => true,
     }
 }
 
@@ -612,6 +665,17 @@ fn first_id(pending: &VecDeque<DocumentRevisions>) -> &str
     match pending.front() {
         Some(document) => document.id.as_str(),
         None => "",
+    }
+}
+
+/// Counts the revisions of the first of the pending documents.
+#[tactic(auto, using(crate::proofs::PendingLemmas::first_is_front))]
+fn first_count(pending: &VecDeque<DocumentRevisions>) -> usize
+    ensures { result ≡ length (first_of_pending (map revisions_of pending.now.items)).revisions }
+{
+    match pending.front() {
+        Some(document) => document.revisions.len(),
+        None => 0,
     }
 }
 

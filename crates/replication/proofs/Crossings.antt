@@ -12,13 +12,14 @@ use Rattle.tree.proofs.Leaves.{leaf_is_childless}
 use Rattle.store.specs.Database.{Database, Document, DocumentWrite, IsKnownAt, IsLater, TextMap, history_at, history_in, sequence_at, sequence_in, with_all}
 use Rattle.store.proofs.Laters.{later_by_all, later_still}
 use Rattle.repl.specs.Configuration.{PassConfiguration}
-use Rattle.repl.specs.Passes.{Pass, answered_in, first_of_pending, first_pass, pass_after, with_changes, with_lacking, with_failures, with_opened, with_source, with_source_reread, with_source_written, with_target, with_target_reread, with_target_written}
-use Rattle.repl.specs.Replies.{Opened, changes_listed, checkpoint_read, checkpoint_written, differences_read, documents_of_opened, documents_pushed, revisions_opened}
+use Rattle.repl.specs.Passes.{Pass, answered_in, answers_open, failures_taken, first_of_pending, first_pass, list_taken, opened_taken, pass_after, with_changes, with_failures, with_lacking, with_opened, with_source, with_source_reread, with_source_written, with_target, with_target_reread, with_target_written}
+use Rattle.repl.specs.Replies.{Opened, checkpoint_read, checkpoint_written, differences_read, documents_of_opened, revisions_opened}
 use Rattle.repl.specs.Turns.{Turn, after_turn, answered, lost}
 use Rattle.repl.specs.declared.phase.Phase.{Phase}
 use Rattle.repl.specs.declared.phase.Phase.TheVariants.{ReadSource, ReadTarget, ListChanges, Compare, Open, Push, WriteSource, WriteTarget, RereadSource, RereadTarget, Done, Stopped}
 use Rattle.repl.specs.declared.why.Why.{Why}
 use Rattle.repl.proofs.LossLemmas.{lost_by}
+use Rattle.repl.proofs.TakenLemmas.{was_said}
 use Rattle.passes.specs.Owed.{Event, Follows, Goes, Scene, Went, listed_after, others as others_write, turn}
 use Rattle.passes.specs.Settled.{is_reported}
 use Rattle.passes.proofs.Rounds.{owes_nothing}
@@ -87,10 +88,11 @@ pushed_carried db p (Err why) h = h
 answered_carried : (db : Database) (f : Phase) (p : Pass) (status : ℕ) (body : List ℕ) → BringsShown f p db (answered status body) → AreShown db p.documents → AreShown db (answered_in f p status body).documents
 answered_carried db ReadSource p status body brings h = keeps_carried db with_source p (checkpoint_read status body) (λ a. refl) h
 answered_carried db ReadTarget p status body brings h = keeps_carried db with_target p (checkpoint_read status body) (λ a. refl) h
-answered_carried db ListChanges p status body brings h = keeps_carried db with_changes p (changes_listed status body) (λ a. refl) h
+answered_carried db ListChanges p status body brings h = keeps_carried db with_changes p (list_taken p status body) (λ a. refl) h
 answered_carried db Compare p status body brings h = keeps_carried db with_lacking p (differences_read p.leaves status body) (λ a. refl) h
-answered_carried db Open p status body brings h = opened_carried db p (revisions_opened status body) brings h
-answered_carried db Push p status body brings h = pushed_carried db p (documents_pushed status body) h
+answered_carried db Open p status body brings h = opened_carried db p (opened_taken p status body)
+    (λ opened taken. brings opened (was_said (λ x. answers_open p x) (revisions_opened status body) opened taken)) h
+answered_carried db Push p status body brings h = pushed_carried db p (failures_taken p status body) h
 answered_carried db WriteSource p status body brings h = keeps_carried db with_source_written p (checkpoint_written status body) (λ a. refl) h
 answered_carried db WriteTarget p status body brings h = keeps_carried db with_target_written p (checkpoint_written status body) (λ a. refl) h
 answered_carried db RereadSource p status body brings h = keeps_carried db with_source_reread p (checkpoint_read status body) (λ a. refl) h

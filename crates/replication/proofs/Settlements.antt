@@ -12,8 +12,8 @@ use Rattle.store.proofs.Laters.{later_itself, later_still}
 use Rattle.node.specs.Runs.{Steps}
 use Rattle.store.specs.Database.{Database, IsLater, history_at, sequence_at}
 use Rattle.repl.specs.Configuration.{PassConfiguration}
-use Rattle.repl.specs.Passes.{Pass, answered_in, first_pass, pass_after, phase_after_loss, with_changes, with_source, with_target}
-use Rattle.repl.specs.Replies.{Changes, changes_listed, checkpoint_read}
+use Rattle.repl.specs.Passes.{Pass, answered_in, first_pass, list_taken, pass_after, phase_after_loss, with_changes, with_source, with_target}
+use Rattle.repl.specs.Replies.{Changes, checkpoint_read}
 use Rattle.repl.specs.Turns.{Turn, after_turn, after_turns, answered, has_listed, lists_at, lists_in, lost, replies_in, start_by, told_at, told_of}
 use Rattle.repl.specs.declared.phase.Phase.{Phase}
 use Rattle.repl.specs.declared.phase.Phase.TheVariants.{ReadSource, ReadTarget, ListChanges, Stopped}
@@ -290,10 +290,10 @@ early_list : (p : Pass) (r : Result Changes Why) → is_ok r ≡ false → IsEar
 early_list p (Ok c) e = absurd cc
 early_list p (Err why) e = tt
 
-early_in : (f : Phase) (p : Pass) (status : ℕ) (body : List ℕ) → p.phase ≡ f → IsEarly f → lists_in f status body ≡ false → IsEarly (answered_in f p status body).phase
+early_in : (f : Phase) (p : Pass) (status : ℕ) (body : List ℕ) → p.phase ≡ f → IsEarly f → lists_in f p status body ≡ false → IsEarly (answered_in f p status body).phase
 early_in ReadSource p status body is h e = early_after with_source p (checkpoint_read status body) (λ s. tt)
 early_in ReadTarget p status body is h e = early_after with_target p (checkpoint_read status body) (λ s. tt)
-early_in ListChanges p status body is h e = early_list p (changes_listed status body) e
+early_in ListChanges p status body is h e = early_list p (list_taken p status body) e
 early_in (Stopped why) p status body is h e = subst IsEarly (sym is) tt
 early_in f p status body is h e = absurd h
 
@@ -406,11 +406,11 @@ done_has_listed_in_courses n c start now course p first at ended = (by (last_by 
     by (inl found) = found
     by (inr none) = absurd (never (ap (λ (o : Option Pass). takes_list o turns) (sym first) ∙ none))
 
-    listed_once : (b : Bool) → has_listed (first_pass c) turns ≡ b → p.start_seq ≡ cond b (start_by (replies_in turns)) 0 → p.start_seq ≡ start_by (replies_in turns)
+    listed_once : (b : Bool) → has_listed (first_pass c) turns ≡ b → p.start_seq ≡ cond b (start_by c (replies_in turns)) 0 → p.start_seq ≡ start_by c (replies_in turns)
     listed_once true e k = k
     listed_once false e k = absurd (never e)
 
-    start_is_read : p.start_seq ≡ start_by (replies_in turns)
+    start_is_read : p.start_seq ≡ start_by c (replies_in turns)
     start_is_read = listed_once (has_listed (first_pass c) turns) refl (ap (λ (x : Pass). x.start_seq) is ∙ start_is c turns)
 
 -- ---- one run
@@ -424,12 +424,12 @@ done_owes n t start listed now later run more p q begins kept l at ended kept_la
     (kept_alone t (requests_of run) kept) (inl (l, none_taken (pass_at now.transfers n))) at ended (kept_alone t (requests_of more) kept_later) then id r good leaf gt
 
 pub done_has_listed : DonePassesHaveListed
-done_has_listed n c start now run p first at ended = (by all.0, all.1 ∙ ap (λ (ts : List Turn). start_by (replies_in ts)) (append-nil (turns_of run n)))
+done_has_listed n c start now run p first at ended = (by all.0, all.1 ∙ ap (λ (ts : List Turn). start_by c (replies_in ts)) (append-nil (turns_of run n)))
   where
     course : Course Steps start now
     course = record { stages = runs ∷ []; goes = (now, run, refl) }
 
-    all : ((listed : Network Contents) × ListsLastThrough course n listed) × (p.start_seq ≡ start_by (replies_in (turns_of run n ++ [])))
+    all : ((listed : Network Contents) × ListsLastThrough course n listed) × (p.start_seq ≡ start_by c (replies_in (turns_of run n ++ [])))
     all = done_has_listed_in_courses n c start now course p first at ended
 
     in_run : (listed : Network Contents) → ListsLastThrough course n listed → ListsLast run n listed

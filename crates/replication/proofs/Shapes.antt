@@ -1,5 +1,5 @@
 -- What a shape reads of a lawful value: texts in UTF-8, lawful documents, and counts up to the greatest.
-use Rattle.std.proofs.Common.{◌≡◌, ◌≤◌, ℕ, ℤ, pos, negsuc, leb, leb-true, Bool, true, false, cond, List, [], ◌∷◌, Option, Some, None, option_map, option_and_then, unwrap_or, codes, refl, subst, arith}
+use Rattle.std.proofs.Common.{◌≡◌, ◌≤◌, ◌==◌, ℕ, ℤ, pos, negsuc, leb, leb-true, Bool, true, false, cond, List, [], ◌∷◌, ◌++◌, length, Option, Some, None, option_map, option_and_then, unwrap_or, codes, refl, subst, arith}
 use Rattle.std.specs.Prelude.{IfSome, IsUtf8, min, ⊤}
 use Rattle.std.specs.List.{AllByRecursion}
 use Rattle.couch_json.specs.Lawful.{AreLawfulItems, IsLawful}
@@ -7,8 +7,8 @@ use Rattle.couch_json.specs.Parts.{has_only, is_object, items_in, text_in, whole
 use Rattle.couch_json.specs.Range.{greatest_count}
 use Rattle.couch_json.specs.Value.{Items, Value, item, member_of, no_items}
 use Rattle.repl.specs.Calls.{Revisions}
-use Rattle.repl.specs.Checkpoints.{Checkpoint, Session, checkpoint_in, session_in, start_of, common_sequence, smaller_or, sequence_of_session}
-use Rattle.repl.specs.Replies.{Changes, Opened, change_in, changes_in_reply, differences_in_reply, document, opened_by, documents_of_opened, has_missing_lists, missing, missing_in, missing_of, missing_of_each, opened_in, revision_in_reply, unless_empty}
+use Rattle.repl.specs.Checkpoints.{Checkpoint, Session, checkpoint_in, session_in, start_of, start_with, common_sequence, smaller_or, sequence_of_session}
+use Rattle.repl.specs.Replies.{Changes, Opened, change_in, changes_in_reply, differences_in_reply, document, opened_by, documents_of_opened, groups_from, has_missing_lists, missing, missing_in, missing_of, missing_of_each, most_revisions, of_document, opened_in, revision_in_reply}
 use Rattle.repl.specs.Shapes.{count_at, count_in_value, count_of, each_in, list_at, list_in, text_at}
 use Rattle.couch_json.proofs.LawfulParts.{member_part}
 use Rattle.replication.proofs.LawfulParts.{text_part, items_part}
@@ -113,10 +113,13 @@ either true m n p q = p
 either false m n p q = q
 
 -- the start is a count where the source's sequences are
-pub start_counted : (a b : Option Checkpoint) → IfSome a AreCounts → start_of a b ≤ greatest_count
+start_counted : (a b : Option Checkpoint) → IfSome a AreCounts → start_of a b ≤ greatest_count
 start_counted None b h = omega arith
 start_counted (Some c) None h = omega arith
 start_counted (Some c) (Some d) h = either _ (min c.sequence d.sequence) (common_sequence c.history d.history) (omega (arith, h.last)) (common_counted c.history d.history h.each)
+
+pub told_counted : (told : Bool) (a b : Option Checkpoint) → IfSome a AreCounts → start_with told a b ≤ greatest_count
+told_counted told a b h = either told 0 (start_of a b) (omega arith) (start_counted a b h)
 
 -- ---- revisions
 
@@ -168,13 +171,28 @@ missing_texts id v h = missing_by (member_of v id) (by (member_of v id) refl)
     by None is = tt
     by (Some w) is = member_part v w id h is
 
-unless_texts : (id : List ℕ) (rs : List (List ℕ)) (others : List Revisions) → IsUtf8 id → AllByRecursion IsUtf8 rs → AllByRecursion AreTexts others → AllByRecursion AreTexts (unless_empty id rs others)
-unless_texts id [] others u h k = k
-unless_texts id (r ∷ rs) others u h k = (record { id = u; revisions = h }, k)
+joined_texts : (as bs : List (List ℕ)) → AllByRecursion IsUtf8 as → AllByRecursion IsUtf8 bs → AllByRecursion IsUtf8 (as ++ bs)
+joined_texts [] bs h k = k
+joined_texts (a ∷ as) bs h k = (h.0, joined_texts as bs h.1 k)
+
+group_texts : (group rs : List (List ℕ)) → AllByRecursion IsUtf8 group → AllByRecursion IsUtf8 rs → AllByRecursion (λ g. AllByRecursion IsUtf8 g) (groups_from group rs)
+group_texts [] [] h k = tt
+group_texts (g ∷ gs) [] h k = (h, tt)
+group_texts group (r ∷ rs) h k = by (length group == most_revisions)
+  where
+    by : (b : Bool) → AllByRecursion (λ g. AllByRecursion IsUtf8 g) (cond b (group ∷ groups_from (r ∷ []) rs) (groups_from (group ++ r ∷ []) rs))
+    by true = (h, group_texts (r ∷ []) rs (k.0, tt) k.1)
+    by false = group_texts (group ++ r ∷ []) rs (joined_texts group (r ∷ []) h (k.0, tt)) k.1
+
+document_texts : (id : List ℕ) (gs : List (List (List ℕ))) (others : List Revisions) → IsUtf8 id → AllByRecursion (λ g. AllByRecursion IsUtf8 g) gs → AllByRecursion AreTexts others
+    → AllByRecursion AreTexts (of_document id gs others)
+document_texts id [] others u h k = k
+document_texts id (g ∷ gs) others u h k = (record { id = u; revisions = h.0 }, document_texts id gs others u h.1 k)
 
 each_missing : (v : Value) (ls : List Revisions) → IsLawful v → AllByRecursion AreTexts ls → AllByRecursion AreTexts (missing_of_each v ls)
 each_missing v [] h k = tt
-each_missing v (l ∷ ls) h k = unless_texts l.id (missing_of l.id v) (missing_of_each v ls) k.0.id (missing_texts l.id v h) (each_missing v ls h k.1)
+each_missing v (l ∷ ls) h k =
+    document_texts l.id (groups_from [] (missing_of l.id v)) (missing_of_each v ls) k.0.id (group_texts [] (missing_of l.id v) tt (missing_texts l.id v h)) (each_missing v ls h k.1)
 
 pub differences_texts : (v : Value) (listed lacking : List Revisions) → IsLawful v → AllByRecursion AreTexts listed → differences_in_reply listed v ≡ Some lacking → AllByRecursion AreTexts lacking
 differences_texts v listed lacking h k e = by (has_missing_lists v) e

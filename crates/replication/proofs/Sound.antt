@@ -29,7 +29,7 @@ use Rattle.passes.specs.Owed.{AreDistinct}
 use Rattle.passes.proofs.Told.{Said, fine, said}
 use Rattle.couch_json.proofs.LawfulParts.{put_lawful}
 use Rattle.replication.proofs.LawfulParts.{text_is_bytes, written_list, lawful_texts}
-use Rattle.replication.proofs.Shapes.{AreCounts, AreRead, AreTexts, checkpoint_counted, mapped_of, start_counted}
+use Rattle.replication.proofs.Shapes.{AreCounts, AreRead, AreTexts, checkpoint_counted, mapped_of, told_counted}
 
 -- ---- what a pass has in hand
 
@@ -139,7 +139,7 @@ pub source_sound : (p : Pass) (s : Stored) → IsSound p → IfSome s.checkpoint
 source_sound p s h k = record { older = k; since = h.since; last = h.last; leaves = h.leaves; distinct = h.distinct; pending = h.pending; documents = h.documents }
 
 pub target_sound : (p : Pass) (s : Stored) → IsSound p → IsSound (with_target p s)
-target_sound p s h = record { older = h.older; since = start_counted p.older s.checkpoint h.older; last = h.last; leaves = h.leaves; distinct = h.distinct; pending = h.pending; documents = h.documents }
+target_sound p s h = record { older = h.older; since = told_counted p.configuration.is_from_start p.older s.checkpoint h.older; last = h.last; leaves = h.leaves; distinct = h.distinct; pending = h.pending; documents = h.documents }
 
 pub changes_sound : (p : Pass) (c : Changes) → IsSound p → AreRead c → AreDistinct c.leaves → IsSound (with_changes p c)
 changes_sound p c h k d = record { older = h.older; since = h.since; last = k.sequence; leaves = k.leaves; distinct = d; pending = h.pending; documents = h.documents }

@@ -6,8 +6,8 @@ use Rattle.store.specs.Contents.{Contents}
 use Rattle.store.specs.Database.{Database, IsLater}
 use Rattle.node.specs.Runs.{Steps}
 use Rattle.repl.specs.Configuration.{PassConfiguration}
-use Rattle.repl.specs.Passes.{Asked, Pass, answered_in, asked_of, done, first_pass, lost_in, pass_after, stopped_by, to_source, to_target, with_changes}
-use Rattle.repl.specs.Replies.{Changes, changes_listed}
+use Rattle.repl.specs.Passes.{Asked, Pass, answered_in, asked_of, done, first_pass, list_taken, lost_in, pass_after, stopped_by, to_source, to_target, with_changes}
+use Rattle.repl.specs.Replies.{Changes}
 use Rattle.repl.specs.Turns.{Turn, after_turn, after_turns, answered, has_listed, lists_at, lists_in, lost}
 use Rattle.repl.specs.declared.phase.Phase.{Phase}
 use Rattle.repl.specs.declared.phase.Phase.TheVariants.{ListChanges, Stopped}
@@ -40,21 +40,21 @@ listed_by p source before (x ∷ xs) = listed_after p.phase source before x
 abbrev pub IsStopped : Phase → Type 0
 IsStopped f = (why : Why) × (f ≡ Stopped why)
 
-listed_in : (f : Phase) (source before : Database) (status : ℕ) (body : List ℕ) → lists_in f status body ≡ true → listed_after f source before (answered status body) ≡ source
-listed_in ListChanges source before status body e = refl
-listed_in f source before status body e = absurd cc
+listed_in : (f : Phase) (p : Pass) (source before : Database) (status : ℕ) (body : List ℕ) → lists_in f p status body ≡ true → listed_after f source before (answered status body) ≡ source
+listed_in ListChanges p source before status body e = refl
+listed_in f p source before status body e = absurd cc
 
 listed_now : (p : Pass) (source before : Database) (x : Turn) → lists_at p x ≡ true → listed_after p.phase source before x ≡ source
-listed_now p source before (answered status body) e = listed_in p.phase source before status body e
+listed_now p source before (answered status body) e = listed_in p.phase p source before status body e
 listed_now p source before lost e = absurd cc
 
 not_listed : (p : Pass) (r : Result Changes Why) → is_ok r ≡ false → IsStopped (pass_after with_changes p r).phase
 not_listed p (Ok c) e = absurd cc
 not_listed p (Err why) e = (why, refl)
 
-unlisted_in : (f : Phase) (p : Pass) (source before : Database) (status : ℕ) (body : List ℕ) → lists_in f status body ≡ false
+unlisted_in : (f : Phase) (p : Pass) (source before : Database) (status : ℕ) (body : List ℕ) → lists_in f p status body ≡ false
     → (listed_after f source before (answered status body) ≡ before) ⊎ IsStopped (answered_in f p status body).phase
-unlisted_in ListChanges p source before status body e = inr (not_listed p (changes_listed status body) e)
+unlisted_in ListChanges p source before status body e = inr (not_listed p (list_taken p status body) e)
 unlisted_in f p source before status body e = inl refl
 
 unlisted_now : (p : Pass) (source before : Database) (x : Turn) → lists_at p x ≡ false → (listed_after p.phase source before x ≡ before) ⊎ IsStopped (after_turn p x).phase

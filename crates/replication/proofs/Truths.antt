@@ -14,12 +14,13 @@ use Rattle.node.specs.Runs.{Steps}
 use Rattle.node.specs.Step.{Serving}
 use Rattle.repl.specs.Calls.{Revisions, compare_revisions, list_changes, open_revisions, push_documents, request_of}
 use Rattle.repl.specs.Configuration.{PassConfiguration}
-use Rattle.repl.specs.Passes.{Asked, Pass, answered_in, asked_by, first_of_pending, step_in, to_source, to_target, done, stopped_by, with_changes, with_lacking, with_failures, with_opened, with_source, with_source_reread, with_source_written, with_target, with_target_reread, with_target_written}
+use Rattle.repl.specs.Passes.{Asked, Pass, answered_in, answers_list, answers_open, asked_by, done, failures_taken, first_of_pending, list_taken, opened_taken, step_in, stopped_by, to_source, to_target, with_changes, with_failures, with_lacking, with_opened, with_source, with_source_reread, with_source_written, with_target, with_target_reread, with_target_written}
 use Rattle.repl.specs.Replies.{Changes, Opened, changes_in_reply, changes_listed, checkpoint_read, checkpoint_written, differences_in_reply, differences_read, documents_pushed, opened_in, revisions_opened}
 use Rattle.repl.specs.Shapes.{list_in}
 use Rattle.repl.specs.declared.phase.Phase.{Phase}
 use Rattle.repl.specs.declared.phase.Phase.TheVariants.{ReadSource, ReadTarget, ListChanges, Compare, Open, Push, WriteSource, WriteTarget, RereadSource, RereadTarget, Done, Stopped}
 use Rattle.repl.specs.declared.side.Side.TheVariants.{Source, Target}
+use Rattle.repl.proofs.TakenLemmas.{was_said}
 use Rattle.passes.specs.Owed.{AreDistinct, Compares, IsTruth, Names, Opens, Pushes}
 use Rattle.passes.proofs.Told.{fine, true_comparison, true_listing, true_opening, true_push}
 use Rattle.world.specs.Network.{Transfer}
@@ -111,7 +112,8 @@ taken_rightly t ListChanges p old new r told lawful sound h =
     λ c e. listing_true p.configuration told old new t.from p.since r c lawful sound.since h e in
     record {
       truth = names;
-      sound = keeps_with with_changes p (changes_listed r.status r.body) sound (λ c e.
+      sound = keeps_with with_changes p (list_taken p r.status r.body) sound (λ c taken.
+          let e = was_said (λ x. answers_list p x) (changes_listed r.status r.body) c taken in
           let m = request_of p.configuration Source (list_changes p.since p.configuration.batch) in
           let s = said_lawfully 200 changes_in_reply h.node.configuration h.node.store m r h.after c (omega arith) h.handled e in
           changes_sound p c sound (changes_read s.value c s.lawful s.shaped) (names c e).distinct);
@@ -125,14 +127,15 @@ taken_rightly t Compare p old new r told lawful sound h = record {
 }
 taken_rightly t Open p old new r told lawful sound h = record {
   truth = λ opened e. opening_true p.configuration told old new t.from (first_of_pending p.pending) opened r (first_texts p.pending sound.pending) h e;
-  sound = keeps_with with_opened p (revisions_opened r.status r.body) sound (λ opened e.
+  sound = keeps_with with_opened p (opened_taken p r.status r.body) sound (λ opened taken.
+      let e = was_said (λ x. answers_open p x) (revisions_opened r.status r.body) opened taken in
       let m = request_of p.configuration Source (open_revisions (first_of_pending p.pending)) in
       let s = said_lawfully 200 (λ v. list_in opened_in v) h.node.configuration h.node.store m r h.after opened (omega arith) h.handled e in
       opened_sound p opened sound (opened_documents s.value opened s.lawful s.shaped));
 }
 taken_rightly t Push p old new r told lawful sound h = record {
   truth = λ failures e. push_true p.configuration told old new t.to p.documents failures r sound.documents h e;
-  sound = keeps_with with_failures p (documents_pushed r.status r.body) sound (λ failures e. failures_sound p failures sound);
+  sound = keeps_with with_failures p (failures_taken p r.status r.body) sound (λ failures e. failures_sound p failures sound);
 }
 taken_rightly t WriteSource p old new r told lawful sound h = record {
   truth = tt;

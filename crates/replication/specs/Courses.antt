@@ -111,4 +111,4 @@ DonePassesOweNothingInCourses =
 abbrev pub DonePassesHaveListedInCourses : Type 0
 DonePassesHaveListedInCourses =
     (n : ℕ) (c : PassConfiguration) (start now : Network Contents) (course : Course Steps start now) (p : Pass) → pass_at start.transfers n ≡ Some (first_pass c) → pass_at now.transfers n ≡ Some p
-    → p.phase ≡ Done → ((listed : Network Contents) × ListsLastThrough course n listed) × (p.start_seq ≡ start_by (replies_in (turns_through course n)))
+    → p.phase ≡ Done → ((listed : Network Contents) × ListsLastThrough course n listed) × (p.start_seq ≡ start_by c (replies_in (turns_through course n)))

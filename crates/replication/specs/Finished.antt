@@ -106,4 +106,4 @@ DonePassesOweNothing =
 abbrev pub DonePassesHaveListed : Type 0
 DonePassesHaveListed =
     (n : ℕ) (c : PassConfiguration) (start now : Network Contents) (run : Run (alike Steps) start now) (p : Pass) → pass_at start.transfers n ≡ Some (first_pass c) → pass_at now.transfers n ≡ Some p
-    → p.phase ≡ Done → ((listed : Network Contents) × ListsLast run n listed) × (p.start_seq ≡ start_by (replies_in (turns_of run n)))
+    → p.phase ≡ Done → ((listed : Network Contents) × ListsLast run n listed) × (p.start_seq ≡ start_by c (replies_in (turns_of run n)))

@@ -45,7 +45,7 @@ ReportsAreToldInCourses {S} step =
 abbrev pub StartsAreReadInCourses : {S : Type 0} → StepOf S → Type 0
 StartsAreReadInCourses {S} step =
     (n : ℕ) (c : PassConfiguration) (old new : Network S) (course : Course step old new) (p : Pass) → pass_at old.transfers n ≡ Some (first_pass c) → pass_at new.transfers n ≡ Some p
-    → p.start_seq ≡ (if has_listed (first_pass c) (turns_through course n) then start_by (replies_in (turns_through course n)) else 0)
+    → p.start_seq ≡ (if has_listed (first_pass c) (turns_through course n) then start_by c (replies_in (turns_through course n)) else 0)
 
 -- A pass that has stopped met the cause at one of its turns.
 abbrev pub StopsHaveCausesInCourses : {S : Type 0} → StepOf S → Type 0

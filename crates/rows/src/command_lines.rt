@@ -72,7 +72,25 @@ fn put_sync(plan: &SyncPlan, out: &mut String) -> Result<(), RowsFault> {
         out.push_str(", created if absent")?;
     }
     write!(out, ", cache {} MB", plan.cache)?;
+    put_pass(plan, out)?;
     put_users(plan.secret.as_str(), &plan.admins, out)
+}
+
+/// Adds how a pass is made, where it isn't made as without a word.
+fn put_pass(plan: &SyncPlan, out: &mut String) -> Result<(), RowsFault> {
+    if plan.from_start {
+        out.push_str(", from the start")?;
+    }
+    if plan.batch != 500 {
+        write!(out, ", batch {}", plan.batch)?;
+    }
+    if plan.patience != 120 {
+        write!(out, ", patience {} s", plan.patience)?;
+    }
+    if plan.log {
+        out.push_str(", logged")?;
+    }
+    Ok(())
 }
 
 /// Adds a side of a pass: its place, and its database.

@@ -1,9 +1,9 @@
 -- What a pass is told by the words of the command line.
 -- This project's own.
-use Rattle.std.specs.Prelude.{List, ℕ, [], ◌++◌, Some, codes, option_map}
+use Rattle.std.specs.Prelude.{List, ℕ, [], ◌++◌, codes, option_map}
 use Rattle.auth.specs.Hmac.{token_of}
 use Rattle.command_line.specs.Plan.{SideAsked, SyncAsked, file_asked, address_asked}
-use Rattle.repl.specs.Configuration.{Account, PassConfiguration}
+use Rattle.repl.specs.Configuration.{Account, PassConfiguration, batch_of}
 
 -- the name of a side: the place, a slash, and the database
 abbrev pub side_name : List ℕ → List ℕ → List ℕ
@@ -27,5 +27,6 @@ pass_configuration asked = record {
   target_db = asked.target_database;
   user = option_map (account_named asked.secret) asked.user;
   session = asked.session;
-  batch = Some 500;
+  batch = batch_of asked.batch;
+  is_from_start = asked.from_start;
 }

@@ -12,9 +12,6 @@ use couch_json::Got;
 use repl::{Batch, Config, User};
 use std::alloc::Global;
 
-/// How many changes are listed at a time.
-const BATCH: u64 = 500;
-
 /// Returns what a pass is told: each side is named by its file or address, a slash, and its database.
 pub fn configure(alloc: Global, plan: &SyncPlan) -> Got<Config>
     ensures { IfOk result (λ config. configuration_of config ≡ pass_configuration (sync_of plan.now)) }
@@ -26,7 +23,8 @@ pub fn configure(alloc: Global, plan: &SyncPlan) -> Got<Config>
         target_db: String::from_str(alloc, &plan.target_database)?,
         user: user_of(alloc, plan)?,
         session: String::from_str(alloc, &plan.session)?,
-        batch: Batch::new(BATCH),
+        batch: Batch::new(plan.batch as u64),
+        is_from_start: plan.from_start,
     })
 }
 
