@@ -85,7 +85,6 @@ fn are_missing_lists(alloc: Global, members: &NameMap<Json>) -> Got<bool>
 }
 
 /// Lists what is missing of the documents, in their order and in groups.
-#[tactic(auto, using(crate::proofs::GroupLemmas::of_document_before))]
 fn missing_of_each(
     alloc: Global,
     value: &Json,
