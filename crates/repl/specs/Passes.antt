@@ -9,6 +9,7 @@ use Rattle.repl.specs.Checkpoints.{Checkpoint, checkpoint_id, history_of, next_c
 use Rattle.repl.specs.Configuration.{PassConfiguration}
 use Rattle.repl.specs.Replies.{Changes, Opened, Stored, changes_listed, checkpoint_read, checkpoint_written, differences_read, documents_of_opened, documents_pushed, missing_reports, revisions_opened}
 use Rattle.couch_json.specs.Range.{greatest_count}
+use Rattle.repl.specs.Shapes.{text_at}
 use Rattle.repl.specs.declared.phase.Phase.{Phase}
 use Rattle.repl.specs.declared.phase.Phase.TheVariants.{ReadSource, ReadTarget, ListChanges, Compare, Open, Push, WriteSource, WriteTarget, RereadSource, RereadTarget, Done, Stopped}
 use Rattle.repl.specs.declared.side.Side.{Side}
@@ -118,6 +119,19 @@ pub record Summary : Type 0 where
 abbrev pub summary_of : Pass → Summary
 summary_of p = record { start_seq = p.start_seq; last_seq = p.last_seq; sent = p.sent; refused = p.refused }
 
+-- the end of the later of two passes, or that of the earlier one where the later has listed nothing
+abbrev pub later_end : ℕ → ℕ → ℕ
+later_end earlier later = if later == 0 then earlier else later
+
+-- what two passes did, of which the later one went on where the earlier one had stopped
+abbrev pub joined : Summary → Summary → Summary
+joined earlier later = record {
+  start_seq = earlier.start_seq;
+  last_seq = later_end earlier.last_seq later.last_seq;
+  sent = min (earlier.sent + later.sent) greatest_count;
+  refused = earlier.refused ++ later.refused;
+}
+
 abbrev pub summary_value : Summary → Value
 summary_value s =
     object (put (codes "start_seq") (whole (pos s.start_seq))
@@ -146,6 +160,11 @@ asked_by p (stopped why) = stopped_by why (summary_of p)
 -- what a pass asks
 abbrev pub asked_of : Pass → Asked
 asked_of p = asked_by p (step_of p)
+
+-- the id of the first of these documents, if it has one
+abbrev pub first_document : List Value → Option (List ℕ)
+first_document [] = None
+first_document (v ∷ vs) = text_at (codes "_id") v
 
 -- ---- what a reply makes of a pass
 

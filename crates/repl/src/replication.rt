@@ -1,22 +1,24 @@
 //! A pass of replication (CouchDB manual, replication/protocol).
 
-ghost use Rattle.std.specs.Prelude.{◌≡◌, if◌then◌else◌, IfOk, OnOk, OnErr, length, map, option_map, string_bytes};
+ghost use Rattle.std.specs.Prelude.{◌≡◌, if◌then◌else◌, IfOk, OnOk, OnErr, length, map, option_copied, option_map, string_bytes};
+ghost use Rattle.couch_json.specs.Canonical.{canonical};
 ghost use Rattle.couch_json.specs.View.{view};
 ghost use Rattle.couch_http.specs.Message.{message_of};
 ghost use Rattle.repl.specs.Asks.{ask_of, pass_of, report_of};
-ghost use Rattle.repl.specs.Calls.{read_checkpoint, request_of, write_checkpoint, open_revisions};
+ghost use Rattle.repl.specs.Calls.{documents_value, read_checkpoint, request_of, write_checkpoint, open_revisions};
 ghost use Rattle.repl.specs.Checkpoints.{checkpoint_id, history_of};
 ghost use Rattle.repl.specs.Configuration.{batch_size, configuration_of};
 ghost use Rattle.repl.specs.Ending.{progress_of};
 ghost use Rattle.repl.specs.Kept.{checkpoint_of, session_of};
 ghost use Rattle.repl.specs.Listed.{revisions_of};
-ghost use Rattle.repl.specs.Passes.{answered_in, answered_of, answers_list, asked_of, checkpoint_after, fills, first_of_pending, first_pass};
+ghost use Rattle.repl.specs.Passes.{answered_in, answered_of, answers_list, asked_of, checkpoint_after, fills, first_document, first_of_pending, first_pass};
 ghost use Rattle.repl.specs.Passes.{has_ended, is_within, is_written, lost_of, unreadable_of, phase_after_list, phase_after_round, with_failures};
 ghost use Rattle.repl.specs.Passes.{with_opened, phase_after_loss, phase_with, sent_to, summary_of, with_loss};
 ghost use Rattle.repl.specs.Taken.{changes_of, opened_of};
 
 use crate::ask::Ask;
 use crate::batch::Batch;
+use crate::bodies::push_body;
 use crate::calls::{
     compare_revisions, list_changes, open_revisions, push_documents, read_checkpoint,
     write_checkpoint,
@@ -24,6 +26,7 @@ use crate::calls::{
 use crate::checkpoint::{KeptCheckpoint, KeptSession, checkpoint_id, next_checkpoint, start_with};
 use crate::config::Config;
 use crate::count::Count;
+use crate::members::text_at;
 use crate::opened::{OpenedRevision, differences_read, revisions_opened};
 use crate::opened_parts::{append_both, documents_of, missing_reports};
 use crate::phase::Phase;
@@ -165,6 +168,27 @@ impl Replication {
             sent: self.sent.value(),
             last_seq: self.last_seq.value(),
         }
+    }
+
+    /// Tells up to which sequence of the source this pass has written both checkpoints; before, it is its start.
+    pub fn checkpoint_sequence(&self) -> u64
+        ensures { result ≡ (pass_of self.now).since }
+    {
+        self.since.value()
+    }
+
+    /// Returns the id of the first of the documents that wait for a push, where one does.
+    pub fn first_unsent(&self) -> Option<&str>
+        ensures { option_copied result ≡ first_document (pass_of self.now).documents }
+    {
+        text_at(self.documents.first()?, "_id")
+    }
+
+    /// Returns how long the body is that pushes the documents that wait for it, in bytes.
+    pub fn unsent_length(&self) -> Got<u64>
+        ensures { IfOk result (λ n. n ≡ length (canonical (documents_value (pass_of self.now).documents))) }
+    {
+        Ok(push_body(self.alloc, &self.documents)?.len() as u64)
     }
 
     /// Asks a side for its checkpoint.

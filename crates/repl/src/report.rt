@@ -1,6 +1,7 @@
 ghost use Rattle.std.specs.Prelude.{◌≡◌, ◌<◌, ◌^◌, pos, IfOk, map, string_bytes};
 ghost use Rattle.couch_json.specs.Value.{whole as whole_value};
 ghost use Rattle.couch_json.specs.View.{view};
+ghost use Rattle.repl.specs.Passes.{later_end};
 
 use crate::count::Count;
 use couch_json::{Got, Json, NameMap, Number, canon, put_member};
@@ -37,7 +38,7 @@ impl Drop for Report {
 impl Report {
     ghost use Rattle.repl.specs.Asks.{report_of};
     ghost use Rattle.repl.specs.Ending.{summary_text};
-    ghost use Rattle.repl.specs.Passes.{summary_value};
+    ghost use Rattle.repl.specs.Passes.{joined, summary_value};
 
     /// Makes the report of these numbers, with a copy of what was refused.
     pub(crate) fn from_parts(
@@ -63,6 +64,34 @@ impl Report {
         })
     }
 
+    /// Joins the report of a pass and that of one that went on where it had stopped. It has the start of the
+    /// first, the end of the second, unless that has listed nothing, and what both sent and reported.
+    pub fn join(self, later: Report) -> Got<Report>
+        ensures { IfOk result (λ r. report_of r ≡ joined (report_of self) (report_of later)) }
+    {
+        let Report {
+            start_seq,
+            last_seq,
+            sent,
+            refused,
+        } = self;
+        let Report {
+            start_seq: _,
+            last_seq: later_seq,
+            sent: more,
+            refused: others,
+        } = later;
+        let mut refused = refused;
+        let mut others = others;
+        refused.append(&mut others)?;
+        Ok(Report {
+            start_seq,
+            last_seq: later_end(last_seq, later_seq),
+            sent: sent.saturating_add(more).min(GREATEST_COUNT),
+            refused,
+        })
+    }
+
     /// Makes the JSON value of the report: an object of `last_seq`, `refused`, `sent` and `start_seq`.
     pub fn to_json(&self, alloc: Global) -> Got<Json>
         ensures { IfOk result (λ v. view v ≡ summary_value (report_of self.now)) }
@@ -84,6 +113,16 @@ impl Report {
         let value = self.to_json(alloc)?;
         canon(alloc, &value)
     }
+}
+
+/// The greatest number of documents that a report has.
+const GREATEST_COUNT: u64 = 9_223_372_036_854_775_807;
+
+/// Returns the end of the later of two passes, or that of the earlier one where it has listed nothing.
+fn later_end(earlier: u64, later: u64) -> u64
+    ensures { result ≡ later_end earlier later }
+{
+    if later == 0 { earlier } else { later }
 }
 
 /// Makes the JSON value of a number.

@@ -10,4 +10,6 @@ pub mod Information
 pub mod Terminal
 pub mod Streams
 pub mod Exchange
+pub mod Pieces
 pub mod Persistence
+pub mod Repeating
