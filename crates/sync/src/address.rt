@@ -5,6 +5,7 @@ ghost use Rattle.couch_http.specs.Message.{message_of};
 ghost use Rattle.sync.specs.Repeating.{may_be_repeated, next_pause};
 
 use crate::answer::Answer;
+use crate::density::is_dense;
 use crate::exchange_end::ExchangeEnd;
 use crate::exchanging::make_exchange;
 use crate::logged::Logged;
@@ -79,6 +80,9 @@ impl<'a, R: Net<Stream = TcpStream> + Clock> Address<'a, R> {
         for _try in 0..MOST_TRIES {
             match self.ask(alloc, request, since)? {
                 Answer::Lost => {}
+                Answer::Reply(reply) if is_dense(request, &reply) => {
+                    return Ok(Answer::Unreadable);
+                }
                 answer => return Ok(answer),
             }
             if !self.waits(since, pause) {

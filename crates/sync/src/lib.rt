@@ -5,6 +5,7 @@ mod address;
 mod answer;
 mod configuring;
 mod creating;
+mod density;
 mod ending;
 mod estimate;
 mod exchange_end;
