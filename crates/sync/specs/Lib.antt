@@ -1,6 +1,8 @@
 pub mod Turns
 pub mod Passing
+pub mod Answers
 pub mod Sides
+pub mod Series
 pub mod Nodes
 pub mod Remotes
 pub mod Ending

@@ -1,4 +1,12 @@
-//! A pass that goes on with smaller batches where one is too long for the target.
+//! A pass that goes on with smaller batches where one is too long for its target.
+
+ghost use Rattle.std.specs.Prelude.{◌≡◌, ◌⊎◌, None, Some, IfErr, IfOk, OnErr, option_map};
+ghost use Rattle.std.specs.Io.KnownBytes.{Appends};
+ghost use Rattle.command_line.specs.Plan.{sync_of};
+ghost use Rattle.repl.specs.Asks.{ask_of, pass_of, report_of};
+ghost use Rattle.repl.specs.Passes.{Asked};
+ghost use Rattle.sync.specs.Ending.{StandsIn, end_text, status_of};
+ghost use Rattle.sync.specs.Series.{IsSeries, is_too_long, joined_end, narrowed};
 
 use crate::configuring::configure_with;
 use crate::ending::{print_end, status_of};
@@ -14,16 +22,16 @@ use std::io::Write;
 /// The status that says that a request is too long (RFC 9110, section 15.5.14).
 const TOO_LONG: u16 = 413;
 
-/// How many passes there are at most: from a batch of 1,000 on six quarters lead to one of 1.
+/// How many passes there are at most: from a batch of 1,000 on five quarters lead to one of 1.
 const MOST_PASSES: u32 = 7;
 
 /// How a pass is made.
 #[derive(Clone, Copy)]
-struct Manner {
+pub struct Manner {
     /// How many changes it lists at a time.
-    batch: u32,
+    pub batch: u32,
     /// It begins at 0.
-    is_from_start: bool,
+    pub is_from_start: bool,
 }
 
 /// Plays the pass of a plan between two sides to its end, and prints its report. Where the target refuses a
@@ -36,7 +44,14 @@ pub fn sync_series<F: Side, T: Side, W: Write, V: Watch>(
     target: &mut T,
     writer: &mut W,
     watch: &mut V,
-) -> Result<u8, ProgramFault> {
+) -> Result<u8, ProgramFault>
+    ensures ended { F.is_honest source.new → T.is_honest target.new → IfOk result (λ status. (asked : Asked)
+        × IsSeries F.answers T.answers (sync_of plan.now) 7 (record { batch = plan.now.batch; is_from_start = plan.now.from_start }) None
+        (record { source = source.old; target = target.old }) asked (record { source = source.new; target = target.new })
+        × (status ≡ status_of asked) × Appends (W.contents writer.old) (W.contents writer.new) (end_text asked)) }
+    ensures kept { OnErr result (StandsIn (W.contents writer.old) (W.contents writer.new)) }
+    ensures faults { IfErr result (λ fault. (fault ≡ ProgramFault.File) ⊎ (fault ≡ ProgramFault.Memory)) }
+{
     let end = play_series(alloc, plan, source, target, watch);
     watch.end();
     let end = end?;
@@ -52,7 +67,12 @@ fn play_series<F: Side, T: Side, V: Watch>(
     source: &mut F,
     target: &mut T,
     watch: &mut V,
-) -> Result<Ask, ProgramFault> {
+) -> Result<Ask, ProgramFault>
+    ensures ended { F.is_honest source.new → T.is_honest target.new → IfOk result (λ end.
+        IsSeries F.answers T.answers (sync_of plan.now) 7 (record { batch = plan.now.batch; is_from_start = plan.now.from_start }) None
+        (record { source = source.old; target = target.old }) (ask_of end) (record { source = source.new; target = target.new })) }
+    ensures faults { IfErr result (λ fault. (fault ≡ ProgramFault.File) ⊎ (fault ≡ ProgramFault.Memory)) }
+{
     let mut manner = Manner {
         batch: plan.batch,
         is_from_start: plan.from_start,
@@ -64,9 +84,9 @@ fn play_series<F: Side, T: Side, V: Watch>(
         let end = play_to_end(alloc, source, target, &mut pass, watch)?;
         let end = join_end(earlier, end)?;
         match end {
-            Ask::Stopped(Why::Status(TOO_LONG), report) if manner.batch > 1 => {
+            Ask::Stopped(why, report) if is_too_long(manner.batch, why) => {
                 earlier = Some(report);
-                manner = narrow(manner, &pass);
+                manner = narrow(manner, pass.checkpoint_sequence());
             }
             end => {
                 tell_too_long(&pass, &end, watch);
@@ -77,17 +97,31 @@ fn play_series<F: Side, T: Side, V: Watch>(
     Err(ProgramFault::File)
 }
 
+/// Tells whether the target refused a batch as too long, and there is a smaller one.
+fn is_too_long(batch: u32, why: Why) -> bool
+    ensures { result ≡ is_too_long batch why }
+{
+    match why {
+        Why::Status(status) => status == TOO_LONG && batch > 1,
+        Why::Reply | Why::Lost => false,
+    }
+}
+
 /// Returns how a pass goes on that stopped at a batch that was too long: with a quarter of it, and from 0 if it
 /// began there and has written no checkpoint.
-fn narrow(manner: Manner, pass: &Replication) -> Manner {
+fn narrow(manner: Manner, reached: u64) -> Manner
+    ensures { result ≡ narrowed manner reached }
+{
     Manner {
         batch: (manner.batch / 4).max(1),
-        is_from_start: manner.is_from_start && pass.checkpoint_sequence() == 0,
+        is_from_start: manner.is_from_start && reached == 0,
     }
 }
 
 /// Returns what a pass says at its end, together with what was reported before.
-fn join_end(earlier: Option<Report>, end: Ask) -> Got<Ask> {
+fn join_end(earlier: Option<Report>, end: Ask) -> Got<Ask>
+    ensures { IfOk result (λ joined. ask_of joined ≡ joined_end (option_map report_of earlier) (ask_of end)) }
+{
     let Some(earlier) = earlier else {
         return Ok(end);
     };
