@@ -32,8 +32,12 @@ fn a_reply_is_told_if_and_only_if_it_came_whole(rt: HostRuntime) -> Result<(), F
     for length in 0..=RECEIVED.len() {
         let mut reader = Logged::new(&RECEIVED.as_bytes()[..length]);
         let mut written = Vec::new(alloc);
-        let reply = exchange(alloc, &put, &mut reader, &mut Logged::new(&mut written))?
-            .into_reply();
+        let reply = exchange(
+            alloc,
+            &put,
+            &mut reader,
+            &mut Logged::new(&mut written),
+        )?.into_reply();
         assert_eq!(rt; written.as_slice(), SENT.as_bytes());
         assert_eq!(rt; reply.is_some(), length >= LENGTH);
         let Some(reply) = reply else {

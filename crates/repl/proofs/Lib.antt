@@ -10,4 +10,5 @@ pub mod LossLemmas
 pub mod ReportLemmas
 pub mod StartLemmas
 pub mod StopLemmas
+pub mod SummaryTexts
 pub mod TakenLemmas

@@ -69,7 +69,7 @@ pub fn push_body(alloc: Global, documents: &[Json]) -> Got<String>
 
 /// Joins the texts of values by commas.
 #[tactic(auto, using(crate::proofs::Joins::join_after_first))]
-fn join_values(alloc: Global, values: &[Json]) -> Got<String>
+pub fn join_values(alloc: Global, values: &[Json]) -> Got<String>
     ensures { IfOk result (λ text. string_bytes text ≡ join_with_byte 44 (items_texts (items_view values.now))) }
 {
     match values.split_first() {

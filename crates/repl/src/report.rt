@@ -3,8 +3,9 @@ ghost use Rattle.couch_json.specs.Value.{whole as whole_value};
 ghost use Rattle.couch_json.specs.View.{view};
 ghost use Rattle.repl.specs.Passes.{later_end};
 
+use crate::bodies::join_values;
 use crate::count::Count;
-use couch_json::{Got, Json, NameMap, Number, canon, put_member};
+use couch_json::{Got, Json, NameMap, Number, put_member};
 use std::alloc::Global;
 
 /// Says what a pass did.
@@ -105,13 +106,19 @@ impl Report {
         Ok(Json::Object(members))
     }
 
-    /// Returns the canonical JSON text of the report.
-    #[tactic(auto, unfolding(crate::specs::Ending::summary_text))]
+    /// Returns the canonical JSON text of the report. What was refused is written without a copy of it.
+    #[tactic(auto, using(crate::proofs::SummaryTexts::summary_in_parts))]
     pub fn text(&self, alloc: Global) -> Got<String>
         ensures { IfOk result (λ text. string_bytes text ≡ summary_text (report_of self.now)) }
     {
-        let value = self.to_json(alloc)?;
-        canon(alloc, &value)
+        let refused = join_values(alloc, &self.refused)?;
+        let last_seq = self.last_seq;
+        let mut text = format!(in alloc; "{{\"last_seq\":{last_seq},\"refused\":[")?;
+        text.push_str(refused.as_str())?;
+        let sent = self.sent;
+        let start_seq = self.start_seq;
+        write!(text, "],\"sent\":{sent},\"start_seq\":{start_seq}}}")?;
+        Ok(text)
     }
 }
 

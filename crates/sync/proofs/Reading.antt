@@ -85,6 +85,7 @@ module _ (a b c : Standing) (count : ℕ) (old new : Option (List ℕ)) (last : 
         };
         counted = longer h.1.0 h.1.4 sized;
       }
+
   pub read_broken : count < most_reads → HasRead a b count old size → Consumes b.bytes c.bytes piece → c.log ≡ b.log ++ last ∷ [] → grown_size ≡ size + length piece → IsTurn old last piece Broken new
       → ReadsBytes a c answer.Unreadable grown_size
   unfolding HasRead

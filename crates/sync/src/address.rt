@@ -32,8 +32,9 @@ const MOST_TRIES: u64 = 1_000_000;
 /// The server at an address, as `127.0.0.1:5984`.
 ///
 /// A connection is used again while the server keeps it open, up to 20 seconds after its last exchange. A
-/// request that is lost is made again after pauses of 0.1 s, 0.2 s and so on up to 10 s. All that takes so many
-/// seconds at most. Then nothing is asked any more: each further request is lost at once.
+/// request that is lost is made again after pauses of 0.1 s, 0.2 s and so on up to 10 s, but not one for the
+/// information on a database. All that takes so many seconds at most. Then nothing is asked any more: each
+/// further request is lost at once.
 #[derive(Drop)]
 pub struct Address<'a, R: Net<Stream = TcpStream> + Clock> {
     rt: &'a R,
@@ -76,6 +77,9 @@ impl<'a, R: Net<Stream = TcpStream> + Clock> Address<'a, R> {
         let Ok(since) = Instant::now(self.rt) else {
             return Ok(Answer::Lost);
         };
+        if is_information(request) {
+            return self.ask(alloc, request, since);
+        }
         let mut pause = FIRST_PAUSE;
         for _try in 0..MOST_TRIES {
             match self.ask(alloc, request, since)? {
@@ -198,6 +202,14 @@ fn is_quiet(stream: &TcpStream) -> bool {
         Err(error) => error.kind() == ErrorKind::WouldBlock,
     };
     stream.set_nonblocking(false).is_ok() && is_quiet
+}
+
+/// Tells whether a request asks for the information on a database, without which a pass goes on.
+fn is_information(request: &Request) -> bool {
+    match request.path.as_str().split_once('/') {
+        Some((_, database)) => database.split_once('/').is_none(),
+        None => true,
+    }
 }
 
 /// Returns the pause after another one, in milliseconds: twice as long, and 10 seconds at most.

@@ -27,7 +27,9 @@ pub fn is_dense(request: &Request, reply: &Response) -> bool {
 /// Returns up to which length the reply to a request is read in any case.
 fn short_for(request: &Request) -> usize {
     let path = request.path.as_str();
-    if path.ends_with("/_changes") || path.ends_with("/_revs_diff") || path.ends_with("/_bulk_docs")
+    if path.ends_with("/_changes")
+        || path.ends_with("/_revs_diff")
+        || path.ends_with("/_bulk_docs")
     {
         SHORT
     } else {

@@ -84,7 +84,9 @@ impl<'a, R: Eprint + Clock> ProgressLine<'a, R> {
         let count = report.refused.len();
         let id = text_at(first, "id");
         let cause = cause_of(first);
-        let _ = eprintln!(self.rt; "couchd: {count} refused, the first {id} by {cause}: run it with --from-start once the target admits them");
+        let _ = eprintln!(self.rt;
+            "couchd: {count} refused, the first {id} by {cause}: run it with --from-start once the target admits them"
+        );
     }
 
     /// Writes the line. What stood there may be longer, so behind the text it is erased (ECMA-48, `EL`).
@@ -154,7 +156,9 @@ impl<R: Eprint + Clock> Watch for ProgressLine<'_, R> {
             return;
         };
         if let Ok(length) = pass.unsent_length() {
-            let _ = eprintln!(self.rt; "couchd: too long for the target: {id}, {length} bytes with all its leaves");
+            let _ = eprintln!(self.rt;
+                "couchd: too long for the target: {id}, {length} bytes with all its leaves"
+            );
         }
     }
 }
