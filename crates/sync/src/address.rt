@@ -169,13 +169,25 @@ impl<'a, R: Net<Stream = TcpStream> + Clock> Address<'a, R> {
     ) -> Got<ExchangeEnd> {
         let mut reader = Logged::new(Timed::new(self.rt, stream, since, self.patience));
         let mut writer = Logged::new(Timed::new(self.rt, stream, since, self.patience));
-        make_exchange(alloc, request, &mut reader, &mut writer)
+        let end = make_exchange(alloc, request, &mut reader, &mut writer)?;
+        Ok(told_apart(end, reader.stream.is_strange()))
     }
 }
 
 impl<R: Net<Stream = TcpStream> + Clock> Side for Address<'_, R> {
     fn answer(&mut self, alloc: Global, request: &Request) -> Got<Answer> {
         self.ask_patiently(alloc, request)
+    }
+}
+
+/// Tells a reply that was lost apart from bytes that begin none.
+fn told_apart(end: ExchangeEnd, is_strange: bool) -> ExchangeEnd {
+    match end.answer {
+        Answer::Lost if is_strange => ExchangeEnd {
+            answer: Answer::Unreadable,
+            read: end.read,
+        },
+        _ => end,
     }
 }
 

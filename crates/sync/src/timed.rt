@@ -17,7 +17,14 @@ pub struct Timed<'a, R: Clock> {
     since: Instant,
     /// How long that may take.
     patience: Duration,
+    /// Nothing was read yet.
+    is_unread: bool,
+    /// What was read first doesn't begin as a reply does.
+    is_strange: bool,
 }
+
+/// How a reply begins (RFC 9112, section 4).
+const BEGINNING: &[u8] = b"HTTP/1.";
 
 impl<'a, R: Clock> Timed<'a, R> {
     /// Gives a connection time: so much since that moment.
@@ -32,6 +39,21 @@ impl<'a, R: Clock> Timed<'a, R> {
             stream,
             since,
             patience,
+            is_unread: true,
+            is_strange: false,
+        }
+    }
+
+    /// Tells whether bytes were read that begin no reply.
+    pub fn is_strange(&self) -> bool {
+        self.is_strange
+    }
+
+    /// Notes how the first bytes begin.
+    fn note_first(&mut self, bytes: &[u8]) {
+        if self.is_unread && !bytes.is_empty() {
+            self.is_unread = false;
+            self.is_strange = !bytes.starts_with(BEGINNING) && !BEGINNING.starts_with(bytes);
         }
     }
 
@@ -49,7 +71,9 @@ impl<R: Clock> Read for Timed<'_, R> {
     fn read(&mut self, buf: &mut [u8]) -> io::Result<usize> {
         self.stream.set_read_timeout(Some(self.wait()?))?;
         let mut stream = self.stream;
-        stream.read(buf)
+        let count = stream.read(buf)?;
+        self.note_first(&buf[..count]);
+        Ok(count)
     }
 }
 
