@@ -246,21 +246,26 @@ left_over h (x ∷ xs) r (inr s) = by (is_known h x) (left_over h xs r s)
 in_begun : (P : List ℕ → Bool) (group ts : List (List ℕ)) → list_any P group ≡ true → list_any (λ g. list_any P g) (groups_from group ts) ≡ true
 in_begun P [] [] e = absurd cc
 in_begun P (x ∷ xs) [] e = or_left (list_any P (x ∷ xs)) false e
-in_begun P group (t ∷ ts) e = by (length group == most_revisions)
+in_begun P group (t ∷ ts) e =
+    by (length group == most_revisions) (in_begun P (group ++ t ∷ []) ts (list_any-append P group (t ∷ []) ∙ or_left (list_any P group) (list_any P (t ∷ [])) e))
   where
-    by : (b : Bool) → list_any (λ g. list_any P g) (cond b (group ∷ groups_from (t ∷ []) ts) (groups_from (group ++ t ∷ []) ts)) ≡ true
-    by true = or_left (list_any P group) _ e
-    by false = in_begun P (group ++ t ∷ []) ts (list_any-append P group (t ∷ []) ∙ or_left (list_any P group) (list_any P (t ∷ [])) e)
+    by : (b : Bool) → list_any (λ g. list_any P g) (groups_from (group ++ t ∷ []) ts) ≡ true
+        → list_any (λ g. list_any P g) (cond b (group ∷ groups_from (t ∷ []) ts) (groups_from (group ++ t ∷ []) ts)) ≡ true
+    by true more = or_left (list_any P group) _ e
+    by false more = more
 
 in_rest : (P : List ℕ → Bool) (group ts : List (List ℕ)) → list_any P ts ≡ true → list_any (λ g. list_any P g) (groups_from group ts) ≡ true
 in_rest P group [] e = absurd cc
-in_rest P group (t ∷ ts) e = by (length group == most_revisions) (or_parts (P t) (list_any P ts) e)
+in_rest P group (t ∷ ts) e =
+    by (length group == most_revisions) (or_parts (P t) (list_any P ts) e) (λ later. in_rest P (t ∷ []) ts later) (λ later. in_rest P (group ++ t ∷ []) ts later)
   where
-    by : (b : Bool) → (P t ≡ true) ⊎ (list_any P ts ≡ true) → list_any (λ g. list_any P g) (cond b (group ∷ groups_from (t ∷ []) ts) (groups_from (group ++ t ∷ []) ts)) ≡ true
-    by true (inl here) = or_right (list_any P group) _ (in_begun P (t ∷ []) ts (or_left (P t) false here))
-    by true (inr later) = or_right (list_any P group) _ (in_rest P (t ∷ []) ts later)
-    by false (inl here) = in_begun P (group ++ t ∷ []) ts (list_any-append P group (t ∷ []) ∙ or_right (list_any P group) (list_any P (t ∷ [])) (or_left (P t) false here))
-    by false (inr later) = in_rest P (group ++ t ∷ []) ts later
+    by : (b : Bool) → (P t ≡ true) ⊎ (list_any P ts ≡ true) → (list_any P ts ≡ true → list_any (λ g. list_any P g) (groups_from (t ∷ []) ts) ≡ true)
+        → (list_any P ts ≡ true → list_any (λ g. list_any P g) (groups_from (group ++ t ∷ []) ts) ≡ true)
+        → list_any (λ g. list_any P g) (cond b (group ∷ groups_from (t ∷ []) ts) (groups_from (group ++ t ∷ []) ts)) ≡ true
+    by true (inl here) anew on = or_right (list_any P group) _ (in_begun P (t ∷ []) ts (or_left (P t) false here))
+    by true (inr later) anew on = or_right (list_any P group) _ (anew later)
+    by false (inl here) anew on = in_begun P (group ++ t ∷ []) ts (list_any-append P group (t ∷ []) ∙ or_right (list_any P group) (list_any P (t ∷ [])) (or_left (P t) false here))
+    by false (inr later) anew on = on later
 
 grouped_more : (id : List ℕ) (r : Revision) (key : List ℕ) (gs : List (List (List ℕ))) (others : List Revisions) → is_among id r others ≡ true → is_among id r (of_document key gs others) ≡ true
 grouped_more id r key [] others e = e

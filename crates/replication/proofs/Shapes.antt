@@ -178,11 +178,13 @@ joined_texts (a ∷ as) bs h k = (h.0, joined_texts as bs h.1 k)
 group_texts : (group rs : List (List ℕ)) → AllByRecursion IsUtf8 group → AllByRecursion IsUtf8 rs → AllByRecursion (λ g. AllByRecursion IsUtf8 g) (groups_from group rs)
 group_texts [] [] h k = tt
 group_texts (g ∷ gs) [] h k = (h, tt)
-group_texts group (r ∷ rs) h k = by (length group == most_revisions)
+group_texts group (r ∷ rs) h k =
+    by (length group == most_revisions) (group_texts (r ∷ []) rs (k.0, tt) k.1) (group_texts (group ++ r ∷ []) rs (joined_texts group (r ∷ []) h (k.0, tt)) k.1)
   where
-    by : (b : Bool) → AllByRecursion (λ g. AllByRecursion IsUtf8 g) (cond b (group ∷ groups_from (r ∷ []) rs) (groups_from (group ++ r ∷ []) rs))
-    by true = (h, group_texts (r ∷ []) rs (k.0, tt) k.1)
-    by false = group_texts (group ++ r ∷ []) rs (joined_texts group (r ∷ []) h (k.0, tt)) k.1
+    by : (b : Bool) → AllByRecursion (λ g. AllByRecursion IsUtf8 g) (groups_from (r ∷ []) rs) → AllByRecursion (λ g. AllByRecursion IsUtf8 g) (groups_from (group ++ r ∷ []) rs)
+        → AllByRecursion (λ g. AllByRecursion IsUtf8 g) (cond b (group ∷ groups_from (r ∷ []) rs) (groups_from (group ++ r ∷ []) rs))
+    by true anew on = (h, anew)
+    by false anew on = on
 
 document_texts : (id : List ℕ) (gs : List (List (List ℕ))) (others : List Revisions) → IsUtf8 id → AllByRecursion (λ g. AllByRecursion IsUtf8 g) gs → AllByRecursion AreTexts others
     → AllByRecursion AreTexts (of_document id gs others)
