@@ -114,14 +114,16 @@ def check_long(options, room, through):
 # ---- servers that are away
 
 
-def check_away(options, room, source):
-    """A server that is killed in the middle of a pass and back after some seconds costs the pass nothing."""
-    for side in ("source", "target"):
-        served, other = f"{room}/away-{side}.db", f"{room}/near-{side}.db"
+def check_away(options, room, source, through):
+    """A server that is killed in the middle of a pass and back after some seconds costs the pass nothing, behind nginx either."""
+    ways = [(side, before) for before in ([None, through] if through else [None]) for side in ("source", "target")]
+    for side, before in ways:
+        served, other = f"{room}/away-{side}{bool(before)}.db", f"{room}/near-{side}{bool(before)}.db"
         copied(source, served if side == "source" else other)
         empty(options, other if side == "source" else served)
         server = serving(options, served, at_once=8)
-        sides = (server.port, other) if side == "source" else (other, server.port)
+        port = before(server.port) if before else server.port
+        sides = (port, other) if side == "source" else (other, port)
         running = subprocess.Popen(words_of(options, "A1", *sides, more=["--batch", "5"]), stdout=subprocess.PIPE, stderr=subprocess.DEVNULL)
         time.sleep(0.2)
         kills = 0
@@ -273,7 +275,7 @@ def check_hostile(options, room):
 WHOLE = {
     "nights": lambda options, room, source, through: check_nights(options, room),
     "long": lambda options, room, source, through: check_long(options, room, through),
-    "away": lambda options, room, source, through: check_away(options, room, source),
+    "away": lambda options, room, source, through: check_away(options, room, source, through),
     "slow": lambda options, room, source, through: check_slow(options, room, source),
     "names": lambda options, room, source, through: check_names(options, room, source),
     "leaves": lambda options, room, source, through: check_leaves(options, room, through),

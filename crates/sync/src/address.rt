@@ -11,7 +11,7 @@ use crate::exchanging::make_exchange;
 use crate::logged::Logged;
 use crate::side::Side;
 use crate::timed::Timed;
-use couch_http::Request;
+use couch_http::{Request, Response};
 use couch_json::{Got, NoMemory};
 use std::alloc::Global;
 use std::io::ErrorKind;
@@ -33,7 +33,7 @@ const MOST_TRIES: u64 = 1_000_000;
 ///
 /// A connection is used again while the server keeps it open, up to 20 seconds after its last exchange. A
 /// request that is lost is made again after pauses of 0.1 s, 0.2 s and so on up to 10 s, but not one for the
-/// information on a database. All that takes so many seconds at most. Then nothing is asked any more: each
+/// information on a database. So is one to which a proxy says that it has lost the reply. All that takes so many seconds at most. Then nothing is asked any more: each
 /// further request is lost at once.
 #[derive(Drop)]
 pub struct Address<'a, R: Net<Stream = TcpStream> + Clock> {
@@ -84,6 +84,7 @@ impl<'a, R: Net<Stream = TcpStream> + Clock> Address<'a, R> {
         for _try in 0..MOST_TRIES {
             match self.ask(alloc, request, since)? {
                 Answer::Lost => {}
+                Answer::Reply(reply) if is_of_gateway(&reply) => {}
                 Answer::Reply(reply) if is_dense(request, &reply) => {
                     return Ok(Answer::Unreadable);
                 }
@@ -222,6 +223,12 @@ fn is_information(request: &Request) -> bool {
         Some((_, database)) => database.split_once('/').is_none(),
         None => true,
     }
+}
+
+/// Tells whether a reply is that of a proxy to which the server's was lost (RFC 9110, sections 15.6.3 and
+/// 15.6.5).
+fn is_of_gateway(reply: &Response) -> bool {
+    matches!(reply.status(), 502 | 504)
 }
 
 /// Returns the pause after another one, in milliseconds: twice as long, and 10 seconds at most.
