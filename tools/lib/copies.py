@@ -52,9 +52,13 @@ def check_nights(place: Any, port: int, settings: dict[str, str]) -> None:
         made(port, "PUT", f"/owned/{user}", {"owner": user}, user)
     here, file = f"127.0.0.1:{port}", f"{DATA}/copies/{port}.db"
     line = differing("owned", here, file if place.has_users else place.root + file, 3, "ann", (5, 0, 2, 0))
-    for what in ("the second night", "the third night"):
-        compare_unit(place, "couchd-copy@", port, settings, what, 3, line)
+    refused = re.escape(f"owned: {here} -> {file if place.has_users else place.root + file}: couchd: 3 refused, the first ann by _design/owner: run it with --from-start once the target admits them")
+    compare_unit(place, "couchd-copy@", port, settings, "the second night", 3, f"{refused}\n{refused}\n{line}")
+    compare_unit(place, "couchd-copy@", port, settings, "the third night", 3, f"{refused}\n{line}")
     made(port, "PUT", f"/owned/_design/owner?rev={rule['rev']}", {"validate_doc_update": MENDED})
+    compare_unit(place, "couchd-copy@", port, settings, "the night after the rule was mended", 0)
+    has = copied(place, port)["owned"][1]
+    compare("couchd-copy@: all four documents", ["_design/owner", "a", "ann", "bob", "eve"], sorted(has))
 
 
 def check_all(place: Any, port: int, settings: dict[str, str]) -> None:

@@ -128,7 +128,7 @@ def chosen(setting: str, *servers: Server) -> list[str]:
 
 def make_pass(source: Server, target: str, database: str, words: list[str]) -> tuple[int, int]:
     """Makes a pass from a server, and prints its lines behind what it copies. Returns its status, and the sequence up to which it came, or 0 where it stopped."""
-    words = ["couchd", "sync", "--session", str(time.time_ns()), "--from-address", source.address, "--db", database, "--target-db", database, *words]
+    words = ["couchd", "sync", "--log", "--session", str(time.time_ns()), "--from-address", source.address, "--db", database, "--target-db", database, *words]
     name = f"{database}: {source.name} -> {target}"
     ran = subprocess.run(words, stdin=subprocess.DEVNULL, capture_output=True, text=True, check=False)
     for text, stream in ((ran.stdout, sys.stdout), (ran.stderr, sys.stderr)):
@@ -160,25 +160,23 @@ def missing_at(target: Server, source: Server, database: str, end: int) -> list[
     return missing
 
 
-def hold_the_same(first: Server, second: Server, database: str, listed: tuple[int | None, int | None] = (None, None)) -> bool:
-    """Tells whether each of two sides knows all leaves of the other, and prints a line for each direction where one doesn't.
+def differences_of(first: Server, second: Server, database: str, listed: tuple[int | None, int | None] = (None, None)) -> list[str]:
+    """Returns a line for each direction in which one of two sides lacks a leaf of the other.
 
     What is missing counts up to the sequence that a pass of this direction listed: without one, all of it. So what is
     written meanwhile doesn't count. Where nothing is missing or written, both sides have to count as many documents.
     """
     before = first.about(database), second.about(database)
-    same, quiet = True, True
+    lines, quiet = [], True
     for (source, target), end, about in zip(((first, second), (second, first)), listed, before):
         missing = missing_at(target, source, database, about["update_seq"])
         owed = [id for id, sequence in missing if end is None or sequence <= end]
         if owed:
-            tell(database, source, target, f"{len(owed)} documents lack a leaf there, the first {json.dumps(owed[0])}; {counts_of(source, target, database)}")
-        same, quiet = same and not owed, quiet and not missing
-    after = first.about(database), second.about(database)
-    if quiet and after == before and counted(before[0]) != counted(before[1]):
-        tell(database, first, second, f"all leaves are there, but {counts_of(first, second, database)}")
-        return False
-    return same
+            lines.append(line_of(database, source, target, f"{len(owed)} documents lack a leaf there, the first {json.dumps(owed[0])}; {counts_of(source, target, database)}"))
+        quiet = quiet and not missing
+    if quiet and (first.about(database), second.about(database)) == before and counted(before[0]) != counted(before[1]):
+        lines.append(line_of(database, first, second, f"all leaves are there, but {counts_of(first, second, database)}"))
+    return lines
 
 
 def counted(about: dict[str, Any]) -> tuple[int, int]:
@@ -191,6 +189,13 @@ def counts_of(source: Server, target: Server, database: str) -> str:
     return "; ".join(f"{live} documents and {deleted} deleted at the {side}" for side, (live, deleted) in zip(("source", "target"), counts))
 
 
-def tell(database: str, source: Server, target: Server, text: str) -> None:
-    """Prints a line about a database and a direction on standard error."""
-    print(f"{database}: {source.name} -> {target.name}: {text}", file=sys.stderr, flush=True)
+def line_of(database: str, source: Server, target: Server, text: str) -> str:
+    """Returns a line about a database and a direction."""
+    return f"{database}: {source.name} -> {target.name}: {text}"
+
+
+def tell(lines: list[str]) -> int:
+    """Prints lines on standard error, and returns the status: 3 where there are some."""
+    for line in lines:
+        print(line, file=sys.stderr, flush=True)
+    return REFUSED if lines else 0

@@ -5,7 +5,7 @@ use crate::local_client::request;
 use couch_http::Request;
 use std::alloc::Global;
 use std::test::Fail;
-use sync::{Logged, exchange};
+use sync::{Answer, Logged, exchange};
 
 /// The bytes of a request as they go out (RFC 9112, sections 3 and 6.2).
 const SENT: &str = "PUT /db/a HTTP/1.1\r\nHost: couchd\r\nContent-Length: 8\r\n\r\n{\"by\":2}";
@@ -32,7 +32,12 @@ fn a_reply_is_told_if_and_only_if_it_came_whole(rt: HostRuntime) -> Result<(), F
     for length in 0..=RECEIVED.len() {
         let mut reader = Logged::new(&RECEIVED.as_bytes()[..length]);
         let mut written = Vec::new(alloc);
-        let reply = exchange(alloc, &put, &mut reader, &mut Logged::new(&mut written))?;
+        let reply = exchange(
+            alloc,
+            &put,
+            &mut reader,
+            &mut Logged::new(&mut written),
+        )?.into_reply();
         assert_eq!(rt; written.as_slice(), SENT.as_bytes());
         assert_eq!(rt; reply.is_some(), length >= LENGTH);
         let Some(reply) = reply else {
@@ -53,7 +58,7 @@ fn nothing_is_read_behind_a_write_that_fails(rt: HostRuntime) -> Result<(), Fail
         let mut reader = Logged::new(RECEIVED.as_bytes());
         let mut writer = Slow::new(alloc, taken);
         let reply = exchange(alloc, &put, &mut reader, &mut Logged::new(&mut writer))?;
-        assert!(rt; reply.is_none());
+        assert!(rt; matches!(reply, Answer::Lost));
         assert_eq!(rt; writer.bytes.as_slice(), &SENT.as_bytes()[..taken]);
         assert_eq!(rt; reader.stream.len(), RECEIVED.len());
     }
@@ -71,7 +76,7 @@ fn each_read_that_fails_ends_an_exchange(rt: HostRuntime) -> Result<(), Fail> {
         });
         let mut written = Vec::new(alloc);
         let reply = exchange(alloc, &put, &mut reader, &mut Logged::new(&mut written))?;
-        assert_eq!(rt; reply.is_some(), length >= LENGTH);
+        assert_eq!(rt; reply.into_reply().is_some(), length >= LENGTH);
         assert_eq!(rt; written.as_slice(), SENT.as_bytes());
     }
     Ok(())
@@ -86,13 +91,13 @@ fn an_interrupted_call_is_made_again(rt: HostRuntime) -> Result<(), Fail> {
         let mut reader = Logged::new(Halting::new(&RECEIVED.as_bytes()[..length]));
         let mut writer = SlowHalting::new(alloc, SENT.len());
         let reply = exchange(alloc, &put, &mut reader, &mut Logged::new(&mut writer))?;
-        assert_eq!(rt; reply.is_some(), length >= LENGTH);
+        assert_eq!(rt; reply.into_reply().is_some(), length >= LENGTH);
         assert_eq!(rt; writer.bytes(), SENT.as_bytes());
     }
     Ok(())
 }
 
-/// Bytes that are no reply are none, nor is a read that fails.
+/// A read that fails loses the reply; bytes that are none can't be read.
 #[test]
 fn a_reply_is_lost_where_reading_fails(rt: HostRuntime) -> Result<(), Fail> {
     let alloc = rt.alloc();
@@ -100,9 +105,9 @@ fn a_reply_is_lost_where_reading_fails(rt: HostRuntime) -> Result<(), Fail> {
     let mut written = Vec::new(alloc);
     let mut writer = Logged::new(&mut written);
     let reply = exchange(alloc, &put, &mut Logged::new(Broken), &mut writer)?;
-    assert!(rt; reply.is_none());
+    assert!(rt; matches!(reply, Answer::Lost));
     let mut reader = Logged::new(SENT.as_bytes());
     let reply = exchange(alloc, &put, &mut reader, &mut writer)?;
-    assert!(rt; reply.is_none());
+    assert!(rt; matches!(reply, Answer::Unreadable));
     Ok(())
 }

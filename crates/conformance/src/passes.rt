@@ -2,14 +2,14 @@
 
 use crate::local_client::{node, reply, store};
 use auth::Auth;
-use couch_http::{Cutter, Request, Response};
+use couch_http::{Cutter, Request};
 use couch_json::Got;
 use node::{Node, Routes};
 use repl::{Batch, Config, Replication};
 use std::alloc::Global;
 use std::test::Fail;
 use store::PlainStore;
-use sync::{Remote, Side, Unwatched, sync_pass, sync_sides};
+use sync::{Answer, Remote, Side, Unwatched, sync_pass, sync_sides};
 use world::World;
 
 /// A design document that takes no document with a member `bad`, as an admin puts it.
@@ -126,16 +126,16 @@ struct Losing {
 }
 
 impl Side for Losing {
-    fn answer(&mut self, _alloc: Global, request: &Request) -> Got<Option<Response>> {
+    fn answer(&mut self, _alloc: Global, request: &Request) -> Got<Answer> {
         let response = self.node.handle(request);
         if self.left == 0 {
             if !self.is_gone {
                 self.left = 1_000;
             }
-            return Ok(None);
+            return Ok(Answer::Lost);
         }
         self.left -= 1;
-        Ok(Some(response))
+        Ok(Answer::Reply(response))
     }
 }
 

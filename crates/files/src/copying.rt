@@ -4,6 +4,7 @@ use crate::opening::open_file;
 use command_line::{ProgramFault, SyncPlan, SyncSide};
 use sqlite::Alter;
 use sqlstore::SqlStore;
+use std::fs::OpenOptions;
 use std::io::IsTerminal;
 use sync::{ProgressLine, sync_addresses, sync_store, sync_stores};
 
@@ -11,7 +12,8 @@ use sync::{ProgressLine, sync_addresses, sync_store, sync_stores};
 /// then the target's. Prints the report, and where standard error is a terminal it shows there how far
 /// the pass is, and what is left. Returns the program's status.
 pub fn sync(rt: &HostRuntime, plan: &SyncPlan) -> Result<u8, ProgramFault> {
-    let mut watch = ProgressLine::new(rt, rt.stderr().is_terminal());
+    check_source(rt, plan)?;
+    let mut watch = ProgressLine::new(rt, rt.stderr().is_terminal(), plan.log);
     match (&plan.source, &plan.target) {
         (SyncSide::File(from), SyncSide::File(to)) => sync_files(rt, plan, from, to, &mut watch),
         (SyncSide::File(path), SyncSide::Address(address))
@@ -21,6 +23,17 @@ pub fn sync(rt: &HostRuntime, plan: &SyncPlan) -> Result<u8, ProgramFault> {
         (SyncSide::Address(from), SyncSide::Address(to)) => {
             sync_addresses(rt, plan, from, to, &mut watch)
         }
+    }
+}
+
+/// Looks whether the source is there, where it is a file: else the library would make one.
+fn check_source(rt: &HostRuntime, plan: &SyncPlan) -> Result<(), ProgramFault> {
+    match &plan.source {
+        SyncSide::File(path) => match OpenOptions::new().read(true).open(rt, path) {
+            Ok(_) => Ok(()),
+            Err(error) => Err(ProgramFault::from(error)),
+        },
+        SyncSide::Address(_) => Ok(()),
     }
 }
 

@@ -1,11 +1,12 @@
 -- An exchange, of what was written and of what was read.
-use Rattle.std.proofs.Common.{◌≡◌, ◌∙◌, ℕ, Bool, true, false, List, Option, None, refl, sym, true≢false}
-use Rattle.couch_http.specs.Reply.{Reply}
+use Rattle.std.proofs.Common.{◌≡◌, ◌∙◌, ℕ, Bool, true, false, List, refl, sym, true≢false}
 use Rattle.sync.specs.Exchange.{ExchangesBytes, ReadsBytes, Standing, Writes}
+use Rattle.sync.specs.declared.answer.Answer.{Answer}
+use Rattle.sync.specs.declared.answer.Answer.TheVariants.{Lost}
 
 module _ (request : List ℕ) (input rest output after : Standing) (all : Bool) (wrote : Writes request output after all) where
   -- where the request wasn't written whole nothing was read
-  pub unsent : all ≡ false → ExchangesBytes request input input output after None 0
+  pub unsent : all ≡ false → ExchangesBytes request input input output after Lost 0
   unsent part = record {
     exchanges = record {
       all = all;
@@ -17,8 +18,8 @@ module _ (request : List ℕ) (input rest output after : Standing) (all : Bool) 
     none = λ _. refl;
   }
 
-  pub sent : (reply : Option Reply) (count : ℕ) → all ≡ true → ReadsBytes input rest reply count → ExchangesBytes request input rest output after reply count
-  sent reply count whole read = record {
+  pub sent : (answer : Answer) (count : ℕ) → all ≡ true → ReadsBytes input rest answer count → ExchangesBytes request input rest output after answer count
+  sent answer count whole read = record {
     exchanges = record {
       all = all;
       wrote = wrote;

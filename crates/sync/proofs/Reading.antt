@@ -4,9 +4,11 @@ use Rattle.std.proofs.KnownBytes.{Consumes-kept, Consumes-nil, Consumes-trans}
 use Rattle.std.specs.Io.KnownBytes.{Consumes, Keeps}
 use Rattle.couch_http.specs.Reply.{Reply}
 use Rattle.couch_http.specs.ReplyStream.{GivesReply, RefusesReply}
-use Rattle.sync.specs.Exchange.{IsTurn, IsUnfinished, ReadsBytes, Standing, most_reads}
+use Rattle.sync.specs.Exchange.{IsUnfinished, ReadsBytes, Standing, most_reads}
+use Rattle.sync.specs.Pieces.{IsTurn}
+use Rattle.sync.specs.declared.answer.Answer.TheVariants as answer
 use Rattle.sync.specs.declared.outcome.Outcome.{Outcome}
-use Rattle.sync.specs.declared.turn.Turn.TheVariants.{Waits, Whole, Lost}
+use Rattle.sync.specs.declared.turn.Turn.TheVariants.{Waits, Whole, Lost, Broken}
 use Rattle.sync.proofs.Logs.{GrewBy, grew_by_none, grew_by_one, grew_finally, grown}
 
 -- these bytes were read in so many reads, the cutter keeps them, and no reply is whole in them; there are so many of them
@@ -50,7 +52,7 @@ module _ (a b c : Standing) (count : ℕ) (old new : Option (List ℕ)) (last : 
       )
 
   pub read_whole : (reply : Reply) → count < most_reads → HasRead a b count old size → Consumes b.bytes c.bytes piece → c.log ≡ b.log ++ last ∷ [] → grown_size ≡ size + length piece
-      → IsTurn old last piece (Whole reply) new → ReadsBytes a c (Some reply) grown_size
+      → IsTurn old last piece (Whole reply) new → ReadsBytes a c (answer.Reply reply) grown_size
   unfolding HasRead
   read_whole reply less h more one sized gives =
       let g = subst (λ o. GivesReply o piece (Some reply) new) h.1.2 gives in
@@ -68,9 +70,9 @@ module _ (a b c : Standing) (count : ℕ) (old new : Option (List ℕ)) (last : 
       }
 
   pub read_lost : count < most_reads → HasRead a b count old size → Consumes b.bytes c.bytes piece → c.log ≡ b.log ++ last ∷ [] → grown_size ≡ size + length piece → IsTurn old last piece Lost new
-      → ReadsBytes a c None grown_size
+      → ReadsBytes a c answer.Lost grown_size
   unfolding HasRead
-  read_lost less h more one sized (inl ends) =
+  read_lost less h more one sized ends =
       let l = grew_finally a.log b.log c.log count last h.0 one ends.0 in
       record {
         reads = record {
@@ -79,11 +81,15 @@ module _ (a b c : Standing) (count : ℕ) (old new : Option (List ℕ)) (last : 
           within = within_more less (length l.0) l.2;
           read = h.1.0 ++ piece;
           consumes = Consumes-trans a.bytes b.bytes c.bytes h.1.0 piece h.1.1 more;
-          is = inl (subst (λ (bytes : List ℕ). IsUnfinished bytes) (sym (ap (λ k. h.1.0 ++ k) ends.1 ∙ append-nil h.1.0)) h.1.3, inl l.3);
+          is = (subst (λ (bytes : List ℕ). IsUnfinished bytes) (sym (ap (λ k. h.1.0 ++ k) ends.1 ∙ append-nil h.1.0)) h.1.3, inl l.3);
         };
         counted = longer h.1.0 h.1.4 sized;
       }
-  read_lost less h more one sized (inr refused) =
+
+  pub read_broken : count < most_reads → HasRead a b count old size → Consumes b.bytes c.bytes piece → c.log ≡ b.log ++ last ∷ [] → grown_size ≡ size + length piece → IsTurn old last piece Broken new
+      → ReadsBytes a c answer.Unreadable grown_size
+  unfolding HasRead
+  read_broken less h more one sized refused =
       let l = grown a.log c.log (count + 1) (grew_by_one a.log b.log c.log count last h.0 one) in
       record {
         reads = record {
@@ -94,14 +100,14 @@ module _ (a b c : Standing) (count : ℕ) (old new : Option (List ℕ)) (last : 
           consumes = Consumes-trans a.bytes b.bytes c.bytes h.1.0 piece h.1.1 more;
           is = elim (subst (λ o. RefusesReply o piece refused.0 new) h.1.2 refused.2) [
             | inl memory ↦ absurd (refused.1 memory.0)
-            | inr breaks ↦ inr (refused.0, refused.1, breaks.1)
+            | inr breaks ↦ (refused.0, refused.1, breaks.1)
           ];
         };
         counted = longer h.1.0 h.1.4 sized;
       }
 
 -- it was read as often as it may be
-pub read_ended : (a b : Standing) (count : ℕ) (kept : Option (List ℕ)) (size : ℕ) → count ≡ most_reads → HasRead a b count kept size → ReadsBytes a b None size
+pub read_ended : (a b : Standing) (count : ℕ) (kept : Option (List ℕ)) (size : ℕ) → count ≡ most_reads → HasRead a b count kept size → ReadsBytes a b answer.Lost size
 unfolding HasRead
 read_ended a b count kept size most h =
     let l = grown a.log b.log count h.0 in
@@ -113,7 +119,7 @@ read_ended a b count kept size most h =
         within = rw many (omega arith);
         read = h.1.0;
         consumes = h.1.1;
-        is = inl (h.1.3, inr many);
+        is = (h.1.3, inr many);
       };
       counted = h.1.4;
     }

@@ -15,7 +15,7 @@ use Rattle.world.specs.declared.event.Event.TheVariants.{Exchange}
 use Rattle.world.specs.declared.fate.Fate.TheVariants.{Answered, ReplyLost}
 use Rattle.world.specs.declared.fault.WorldFaultKind.{WorldFaultKind}
 use Rattle.sync.specs.Passing.{HasTurn, BreaksOff}
-use Rattle.sync.specs.Sides.{Answering, Between}
+use Rattle.sync.specs.Sides.{Answering, Between, Breaking}
 use Rattle.sync.specs.Sides as sides
 
 -- the number of the first event, where that is an exchange
@@ -59,9 +59,9 @@ pub end_breaks_off : {S : Type 0} (g : Ghosts S) (number : ℕ) (before after : 
 end_breaks_off g number before after asked turn = inr ((Answered, (λ h. absurd cc), (turn.0, turn.1)))
 
 -- the same between two sides
-pub sides_end_break_off : {F T : Type 0} (source : Answering F) (target : Answering T) (before after : Between F T) (asked : Asked)
-    → sides.HasTurn source target before (Some asked) after → sides.BreaksOff source target before after
-sides_end_break_off source target before after asked turn = inl turn.2
+pub sides_end_break_off : {F T : Type 0} (source : Answering F) (source_breaks : Breaking F) (target : Answering T) (target_breaks : Breaking T) (before after : Between F T) (asked : Asked)
+    → sides.HasTurn source target before (Some asked) after → sides.BreaksOff source source_breaks target target_breaks before after
+sides_end_break_off source source_breaks target target_breaks before after asked turn = inl turn.2
 
 -- only a pass that was never started is unknown
 pub was_never_started : (table : ConnectionTable) (transfers : List Transfer) (number played : ℕ) → IsUnknownAt table transfers (exchanges number Answered ∷ []) played → was_started transfers number ≡ false

@@ -3,13 +3,14 @@
 use Rattle.std.specs.Prelude.{◌≡◌, ◌==◌, ℕ, Bool, false, List, [], ◌++◌, if◌then◌else◌, codes, Option, Some, None, option_and_then}
 use Rattle.std.specs.List.{before_first, after_first}
 use Rattle.couch_http.specs.Message.{Message}
-use Rattle.couch_http.specs.Reply.{Reply}
 use Rattle.repl.specs.Calls.{headers_of}
 use Rattle.repl.specs.Configuration.{PassConfiguration}
 use Rattle.repl.specs.Replies.{value_in}
 use Rattle.repl.specs.Shapes.{count_at}
 use Rattle.repl.specs.Spelling.{segment}
 use Rattle.sync.specs.Sides.{Answering}
+use Rattle.sync.specs.declared.answer.Answer.{Answer}
+use Rattle.sync.specs.declared.answer.Answer.TheVariants.{Reply, Lost, Unreadable}
 
 -- `/`
 abbrev pub is_slash : ℕ → Bool
@@ -30,11 +31,12 @@ information_request c = record {
   last = false;
 }
 
--- the greatest sequence that a reply says the database has; one that was lost, or is of another status or shape, says none
-abbrev pub update_seq_in : Option Reply → Option ℕ
-update_seq_in None = None
-update_seq_in (Some reply) = if reply.status == 200 then option_and_then (λ v. count_at (codes "update_seq") v) (value_in reply.body) else None
+-- the greatest sequence that a reply says the database has; no reply, or one of another status or shape, says none
+abbrev pub update_seq_in : Answer → Option ℕ
+update_seq_in Lost = None
+update_seq_in Unreadable = None
+update_seq_in (Reply reply) = if reply.status == 200 then option_and_then (λ v. count_at (codes "update_seq") v) (value_in reply.body) else None
 
 -- the source was asked this, and its reply says that sequence
 abbrev pub IsSaid : {S : Type 0} → Answering S → S → Message → Option ℕ → S → Type 0
-IsSaid answers before m sequence after = (reply : Option Reply) × answers before m reply after × (sequence ≡ update_seq_in reply)
+IsSaid answers before m sequence after = (answer : Answer) × answers before m answer after × (sequence ≡ update_seq_in answer)

@@ -1,6 +1,8 @@
 pub mod Turns
 pub mod Passing
+pub mod Answers
 pub mod Sides
+pub mod Series
 pub mod Nodes
 pub mod Remotes
 pub mod Ending
@@ -10,4 +12,6 @@ pub mod Information
 pub mod Terminal
 pub mod Streams
 pub mod Exchange
+pub mod Pieces
 pub mod Persistence
+pub mod Repeating

@@ -1,33 +1,50 @@
 //! The server at an address, as a side of a pass.
 
+ghost use Rattle.std.specs.Prelude.{◌≡◌};
+ghost use Rattle.couch_http.specs.Message.{message_of};
+ghost use Rattle.sync.specs.Repeating.{may_be_repeated, next_pause};
+
+use crate::answer::Answer;
+use crate::density::is_dense;
 use crate::exchange_end::ExchangeEnd;
 use crate::exchanging::make_exchange;
 use crate::logged::Logged;
 use crate::side::Side;
+use crate::timed::Timed;
 use couch_http::{Request, Response};
 use couch_json::{Got, NoMemory};
 use std::alloc::Global;
 use std::io::ErrorKind;
 use std::net::{Net, TcpStream};
+use std::thread;
 use std::time::{Clock, Duration, Instant};
-
-/// How many seconds a read or a write may wait.
-const PATIENCE: u64 = 30;
 
 /// For how many seconds after an exchange its connection is used again. A server that serves one connection
 /// after another closes a silent one after 30 seconds.
 const FRESH: u64 = 20;
 
+/// After how many milliseconds a lost request is made again at first.
+const FIRST_PAUSE: u64 = 100;
+
+/// How many times a request is made at most, whatever the clock says.
+const MOST_TRIES: u64 = 1_000_000;
+
 /// The server at an address, as `127.0.0.1:5984`.
 ///
-/// A connection is used again while the server keeps it open, up to 20 seconds after its last exchange. One
-/// that fails, or waits for 30 seconds, loses the exchange, and is closed.
+/// A connection is used again while the server keeps it open, up to 20 seconds after its last exchange. A
+/// request that is lost is made again after pauses of 0.1 s, 0.2 s and so on up to 10 s, but not one for the
+/// information on a database. So is one to which a proxy says that it has lost the reply. All that takes so many seconds at most. Then nothing is asked any more: each
+/// further request is lost at once.
 #[derive(Drop)]
 pub struct Address<'a, R: Net<Stream = TcpStream> + Clock> {
     rt: &'a R,
     address: &'a str,
     /// A connection is used again at all.
     keeps: bool,
+    /// How long a request may take.
+    patience: Duration,
+    /// A request took longer.
+    is_given_up: bool,
     kept: Option<KeptConnection>,
 }
 
@@ -40,13 +57,60 @@ struct KeptConnection {
 }
 
 impl<'a, R: Net<Stream = TcpStream> + Clock> Address<'a, R> {
-    /// Names a server. It is not asked anything yet.
-    pub fn new(rt: &'a R, address: &'a str, keeps: bool) -> Address<'a, R> {
+    /// Names a server, and for how many seconds it is waited for. It is not asked anything yet.
+    pub fn new(rt: &'a R, address: &'a str, keeps: bool, patience: u32) -> Address<'a, R> {
         Address {
             rt,
             address,
             keeps,
+            patience: Duration::from_secs(patience as u64),
+            is_given_up: false,
             kept: None,
+        }
+    }
+
+    /// Makes a request, again where it was lost, until its time is over.
+    fn ask_patiently(&mut self, alloc: Global, request: &Request) -> Got<Answer> {
+        if self.is_given_up {
+            return Ok(Answer::Lost);
+        }
+        let Ok(since) = Instant::now(self.rt) else {
+            return Ok(Answer::Lost);
+        };
+        if is_information(request) {
+            return self.ask(alloc, request, since);
+        }
+        let mut pause = FIRST_PAUSE;
+        for _try in 0..MOST_TRIES {
+            match self.ask(alloc, request, since)? {
+                Answer::Lost => {}
+                Answer::Reply(reply) if is_of_gateway(&reply) => {}
+                Answer::Reply(reply) if is_dense(request, &reply) => {
+                    return Ok(Answer::Unreadable);
+                }
+                answer => return Ok(answer),
+            }
+            if !self.waits(since, pause) {
+                self.is_given_up = true;
+                return Ok(Answer::Lost);
+            }
+            if !may_be_repeated(request) {
+                return Ok(Answer::Lost);
+            }
+            pause = next_pause(pause);
+        }
+        Ok(Answer::Lost)
+    }
+
+    /// Waits before a request is made again, where that is in time.
+    fn waits(&self, since: Instant, pause: u64) -> bool {
+        let pause = Duration::from_millis(pause);
+        match since.elapsed(self.rt) {
+            Ok(elapsed) if elapsed.saturating_add(pause) < self.patience => {
+                thread::sleep(self.rt, pause);
+                true
+            }
+            _ => false,
         }
     }
 
@@ -74,52 +138,70 @@ impl<'a, R: Net<Stream = TcpStream> + Clock> Address<'a, R> {
 
     /// Makes an exchange over the connection that was kept, or a new one. Where the one that was kept gave no
     /// byte of a reply, a request that may be made twice is made again over a new one.
-    fn ask(&mut self, alloc: Global, request: &Request) -> Got<Option<Response>> {
+    fn ask(&mut self, alloc: Global, request: &Request, since: Instant) -> Got<Answer> {
         let Some(stream) = self.take_fresh() else {
-            return self.ask_anew(alloc, request);
+            return self.ask_anew(alloc, request, since);
         };
-        let end = exchange_over(alloc, request, &stream)?;
+        let end = self.exchange_over(alloc, request, &stream, since)?;
         if end.is_unanswered() && may_be_repeated(request) {
-            return self.ask_anew(alloc, request);
+            return self.ask_anew(alloc, request, since);
         }
         self.keep(stream, &end);
-        Ok(end.reply)
+        Ok(end.answer)
     }
 
     /// Makes an exchange over a new connection.
-    fn ask_anew(&mut self, alloc: Global, request: &Request) -> Got<Option<Response>> {
+    fn ask_anew(&mut self, alloc: Global, request: &Request, since: Instant) -> Got<Answer> {
         let Some(stream) = connect(self.rt, self.address)? else {
-            return Ok(None);
+            return Ok(Answer::Lost);
         };
-        let end = exchange_over(alloc, request, &stream)?;
+        let end = self.exchange_over(alloc, request, &stream, since)?;
         self.keep(stream, &end);
-        Ok(end.reply)
+        Ok(end.answer)
+    }
+
+    /// Makes an exchange over a connection, whose reads and writes end when the time of the request does.
+    fn exchange_over(
+        &self,
+        alloc: Global,
+        request: &Request,
+        stream: &TcpStream,
+        since: Instant,
+    ) -> Got<ExchangeEnd> {
+        let mut reader = Logged::new(Timed::new(self.rt, stream, since, self.patience));
+        let mut writer = Logged::new(Timed::new(self.rt, stream, since, self.patience));
+        let end = make_exchange(alloc, request, &mut reader, &mut writer)?;
+        Ok(told_apart(end, reader.stream.is_strange()))
     }
 }
 
 impl<R: Net<Stream = TcpStream> + Clock> Side for Address<'_, R> {
-    fn answer(&mut self, alloc: Global, request: &Request) -> Got<Option<Response>> {
-        self.ask(alloc, request)
+    fn answer(&mut self, alloc: Global, request: &Request) -> Got<Answer> {
+        self.ask_patiently(alloc, request)
     }
 }
 
-/// Opens a connection, whose reads and writes wait for 30 seconds at most. There is none where it fails.
+/// Tells a reply that was lost apart from bytes that begin none.
+fn told_apart(end: ExchangeEnd, is_strange: bool) -> ExchangeEnd {
+    match end.answer {
+        Answer::Lost if is_strange => ExchangeEnd {
+            answer: Answer::Unreadable,
+            read: end.read,
+        },
+        _ => end,
+    }
+}
+
+/// Opens a connection. There is none where it fails.
 fn connect<R: Net<Stream = TcpStream>>(rt: &R, address: &str) -> Got<Option<TcpStream>> {
     match TcpStream::connect(rt, address) {
-        Ok(stream) => Ok(with_patience(stream)),
+        Ok(stream) => {
+            let _ = stream.set_nodelay(true);
+            Ok(Some(stream))
+        }
         Err(error) if error.kind() == ErrorKind::OutOfMemory => Err(NoMemory),
         Err(_) => Ok(None),
     }
-}
-
-/// Limits how long the reads and the writes of a connection wait.
-fn with_patience(stream: TcpStream) -> Option<TcpStream> {
-    let patience = Some(Duration::from_secs(PATIENCE));
-    if stream.set_read_timeout(patience).is_err() || stream.set_write_timeout(patience).is_err() {
-        return None;
-    }
-    let _ = stream.set_nodelay(true);
-    Some(stream)
 }
 
 /// Tells whether a connection is open and has nothing to read.
@@ -135,14 +217,30 @@ fn is_quiet(stream: &TcpStream) -> bool {
     stream.set_nonblocking(false).is_ok() && is_quiet
 }
 
-/// Makes an exchange over a connection.
-fn exchange_over(alloc: Global, request: &Request, stream: &TcpStream) -> Got<ExchangeEnd> {
-    let mut reader = Logged::new(stream);
-    let mut writer = Logged::new(stream);
-    make_exchange(alloc, request, &mut reader, &mut writer)
+/// Tells whether a request asks for the information on a database, without which a pass goes on.
+fn is_information(request: &Request) -> bool {
+    match request.path.as_str().split_once('/') {
+        Some((_, database)) => database.split_once('/').is_none(),
+        None => true,
+    }
+}
+
+/// Tells whether a reply is that of a proxy to which the server's was lost (RFC 9110, sections 15.6.3 and
+/// 15.6.5).
+fn is_of_gateway(reply: &Response) -> bool {
+    matches!(reply.status(), 502 | 504)
+}
+
+/// Returns the pause after another one, in milliseconds: twice as long, and 10 seconds at most.
+fn next_pause(pause: u64) -> u64
+    ensures { result ≡ next_pause pause }
+{
+    pause.saturating_mul(2).min(10_000)
 }
 
 /// Tells whether a request of a pass may be made twice: it reads, or brings revisions by their names.
-fn may_be_repeated(request: &Request) -> bool {
+fn may_be_repeated(request: &Request) -> bool
+    ensures { result ≡ may_be_repeated (message_of request.now) }
+{
     matches!(request.method.as_str(), "GET" | "POST")
 }

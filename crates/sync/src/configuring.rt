@@ -4,7 +4,7 @@ ghost use Rattle.std.specs.Prelude.{◌≡◌, IfOk, option_map, string_bytes};
 ghost use Rattle.auth.specs.Hmac.{token_of};
 ghost use Rattle.command_line.specs.Plan.{side_of, sync_of};
 ghost use Rattle.repl.specs.Configuration.{account_of, configuration_of};
-ghost use Rattle.sync.specs.Configuring.{account_named, pass_configuration, place_of, side_name};
+ghost use Rattle.sync.specs.Configuring.{account_named, configuration_with, pass_configuration, place_of, side_name};
 
 use auth::Auth;
 use command_line::{SyncPlan, SyncSide};
@@ -12,9 +12,21 @@ use couch_json::Got;
 use repl::{Batch, Config, User};
 use std::alloc::Global;
 
-/// Returns what a pass is told: each side is named by its file or address, a slash, and its database.
+/// Returns what a pass is told at first: each side is named by its file or address, a slash, and its database.
 pub fn configure(alloc: Global, plan: &SyncPlan) -> Got<Config>
     ensures { IfOk result (λ config. configuration_of config ≡ pass_configuration (sync_of plan.now)) }
+{
+    configure_with(alloc, plan, plan.batch, plan.from_start)
+}
+
+/// Returns what a pass is told that lists so many changes at a time, and begins at 0 or not.
+pub fn configure_with(
+    alloc: Global,
+    plan: &SyncPlan,
+    batch: u32,
+    is_from_start: bool,
+) -> Got<Config>
+    ensures { IfOk result (λ config. configuration_of config ≡ configuration_with (sync_of plan.now) batch is_from_start) }
 {
     Ok(Config {
         source: side_name(alloc, place_of(&plan.source), &plan.database)?,
@@ -23,8 +35,8 @@ pub fn configure(alloc: Global, plan: &SyncPlan) -> Got<Config>
         target_db: String::from_str(alloc, &plan.target_database)?,
         user: user_of(alloc, plan)?,
         session: String::from_str(alloc, &plan.session)?,
-        batch: Batch::new(plan.batch as u64),
-        is_from_start: plan.from_start,
+        batch: Batch::new(batch as u64),
+        is_from_start,
     })
 }
 

@@ -3,16 +3,18 @@ ghost use Rattle.std.specs.Io.KnownBytes.{Consumes};
 ghost use Rattle.couch_http.specs.Message.{message_of};
 ghost use Rattle.couch_http.specs.RequestText.{request_text};
 ghost use Rattle.couch_http.specs.Writing.{Takes};
-ghost use Rattle.sync.specs.Exchange.{Exchanges, ExchangesBytes, IsTurn, ReadsBytes};
+ghost use Rattle.sync.specs.Exchange.{Exchanges, ExchangesBytes, ReadsBytes};
+ghost use Rattle.sync.specs.Pieces.{IsTurn};
 ghost use Rattle.sync.specs.Streams.{outcomes_of};
 ghost use Rattle.sync.specs.declared.outcome.Outcome.{Outcome};
 
+use crate::answer::Answer;
 use crate::exchange_end::ExchangeEnd;
 use crate::logged::Logged;
 use crate::outcome::Outcome;
 use crate::turn::Turn;
 use crate::writing::write_logged;
-use couch_http::{HttpFault, ReplyCutter, Request, Response, request_bytes};
+use couch_http::{HttpFault, ReplyCutter, Request, request_bytes};
 use couch_json::{Got, NoMemory};
 use std::alloc::Global;
 use std::io::{Read, Write};
@@ -23,9 +25,9 @@ const PIECE: usize = 8_192;
 /// How many times a reply is read at most.
 const READS: u64 = 1_048_576;
 
-/// Writes a request, and reads its reply, which is `None` where it was lost: a write failed or took no
-/// byte, a read failed, there was nothing more to read, the bytes are no reply, or it isn't whole after
-/// 1,048,576 reads of up to 8,192 bytes (RFC 9112).
+/// Writes a request, and reads its reply, which is `Lost` where a write failed or took no byte, a read
+/// failed, there was nothing more to read, or it isn't whole after 1,048,576 reads of up to 8,192 bytes. It
+/// is `Unreadable` where the bytes are no reply, or none that a server of this repository gives (RFC 9112).
 ///
 /// A read or a write that is interrupted is made again. Where the request isn't written whole nothing is
 /// read. What comes behind the reply is dropped.
@@ -34,7 +36,7 @@ pub fn exchange<R: Read, W: Write>(
     request: &Request,
     reader: &mut Logged<R>,
     writer: &mut Logged<W>,
-) -> Got<Option<Response>>
+) -> Got<Answer>
     ensures wrote { (all : Bool) × Takes (W.contents writer.old.stream) (W.contents writer.new.stream) (request_text (message_of request.now)) all }
     ensures reply { IfOk result (Exchanges (request_text (message_of request.now))
         (record { bytes = R.remaining reader.old.stream; log = outcomes_of reader.old.log.items })
@@ -42,7 +44,7 @@ pub fn exchange<R: Read, W: Write>(
         (record { bytes = W.contents writer.old.stream; log = outcomes_of writer.old.log.items })
         (record { bytes = W.contents writer.new.stream; log = outcomes_of writer.new.log.items })) }
 {
-    Ok(make_exchange(alloc, request, reader, writer)?.reply)
+    Ok(make_exchange(alloc, request, reader, writer)?.answer)
 }
 
 /// Makes an exchange as `exchange` does, and counts the bytes that were read.
@@ -57,23 +59,23 @@ pub fn make_exchange<R: Read, W: Write>(
         (record { bytes = R.remaining reader.old.stream; log = outcomes_of reader.old.log.items })
         (record { bytes = R.remaining reader.new.stream; log = outcomes_of reader.new.log.items })
         (record { bytes = W.contents writer.old.stream; log = outcomes_of writer.old.log.items })
-        (record { bytes = W.contents writer.new.stream; log = outcomes_of writer.new.log.items }) end.reply end.read) }
+        (record { bytes = W.contents writer.new.stream; log = outcomes_of writer.new.log.items }) end.answer end.read) }
 {
     let bytes = request_bytes(alloc, request)?;
     if !write_logged(writer, &bytes) {
         return Ok(ExchangeEnd {
-            reply: None,
+            answer: Answer::Lost,
             read: 0,
         });
     }
     read_reply(alloc, reader)
 }
 
-/// Reads a reply, which is `None` where it won't come.
+/// Reads a reply.
 fn read_reply<R: Read>(alloc: Global, reader: &mut Logged<R>) -> Got<ExchangeEnd>
     ensures { IfOk result (λ end. ReadsBytes
         (record { bytes = R.remaining reader.old.stream; log = outcomes_of reader.old.log.items })
-        (record { bytes = R.remaining reader.new.stream; log = outcomes_of reader.new.log.items }) end.reply end.read) }
+        (record { bytes = R.remaining reader.new.stream; log = outcomes_of reader.new.log.items }) end.answer end.read) }
 {
     let mut cutter = ReplyCutter::new(alloc);
     let mut room = [0; PIECE];
@@ -83,14 +85,28 @@ fn read_reply<R: Read>(alloc: Global, reader: &mut Logged<R>) -> Got<ExchangeEnd
             Turn::Waits => {}
             Turn::Whole(reply) => {
                 return Ok(ExchangeEnd {
-                    reply: Some(reply),
+                    answer: Answer::Reply(reply),
                     read,
                 });
             }
-            Turn::Lost => return Ok(ExchangeEnd { reply: None, read }),
+            Turn::Lost => {
+                return Ok(ExchangeEnd {
+                    answer: Answer::Lost,
+                    read,
+                });
+            }
+            Turn::Broken => {
+                return Ok(ExchangeEnd {
+                    answer: Answer::Unreadable,
+                    read,
+                });
+            }
         }
     }
-    Ok(ExchangeEnd { reply: None, read })
+    Ok(ExchangeEnd {
+        answer: Answer::Lost,
+        read,
+    })
 }
 
 /// Reads one piece of a reply, counts its bytes, and takes it in. Where the read is interrupted nothing has
@@ -129,6 +145,6 @@ fn take_reply_piece(cutter: &mut ReplyCutter, piece: &[u8]) -> Got<Turn>
         Ok(Some(reply)) => Ok(Turn::Whole(reply)),
         Ok(None) => Ok(Turn::Waits),
         Err(HttpFault::Memory) => Err(NoMemory),
-        Err(_) => Ok(Turn::Lost),
+        Err(_) => Ok(Turn::Broken),
     }
 }

@@ -8,8 +8,9 @@ ghost use Rattle.repl.specs.Passes.{asked_of, first_pass, to_source};
 ghost use Rattle.repl.specs.Shapes.{count_at};
 ghost use Rattle.sync.specs.Configuring.{pass_configuration};
 ghost use Rattle.sync.specs.Information.{IsSaid, first_segment, information_request, update_seq_in};
-ghost use Rattle.sync.specs.Sides.{MayAnswer};
+ghost use Rattle.sync.specs.Sides.{MayBreakOff};
 
+use crate::answer::Answer;
 use crate::configuring::configure;
 use crate::side::Side;
 use command_line::SyncPlan;
@@ -24,13 +25,13 @@ pub fn ask_update_seq<S: Side>(alloc: Global, plan: &SyncPlan, source: &mut S) -
     ensures said { S.is_honest source.new
         → IfOk result (λ sequence. IsSaid S.answers source.old (information_request (pass_configuration (sync_of plan.now))) sequence source.new) }
     ensures refused { S.is_honest source.new
-        → OnErr result (MayAnswer S.answers source.old (information_request (pass_configuration (sync_of plan.now))) source.new) }
+        → OnErr result (MayBreakOff S.answers S.breaks_off source.old (information_request (pass_configuration (sync_of plan.now))) source.new) }
     ensures honest { S.is_honest source.new → S.is_honest source.old }
 {
     let request = information_request(alloc, plan)?;
     match source.answer(alloc, &request)? {
-        Some(reply) => update_seq_in(alloc, &reply),
-        None => Ok(None),
+        Answer::Reply(reply) => update_seq_in(alloc, &reply),
+        Answer::Lost | Answer::Unreadable => Ok(None),
     }
 }
 
@@ -74,7 +75,7 @@ fn first_segment(path: &str) -> &str
 
 /// Returns the sequence that a reply says, if it says one.
 fn update_seq_in(alloc: Global, reply: &Response) -> Got<Option<u64>>
-    ensures { IfOk result (λ sequence. sequence ≡ update_seq_in (Some reply.now)) }
+    ensures { IfOk result (λ sequence. sequence ≡ update_seq_in (Answer.Reply reply.now)) }
 {
     if reply.status() != 200 {
         return Ok(None);

@@ -2,8 +2,10 @@
 #![tactic(auto)]
 
 mod address;
+mod answer;
 mod configuring;
 mod creating;
+mod density;
 mod ending;
 mod estimate;
 mod exchange_end;
@@ -17,13 +19,16 @@ mod passing;
 mod persistence;
 mod planned;
 mod remote;
+mod series;
 mod side;
 mod sides;
 mod terminal;
+mod timed;
 mod turn;
 mod watch;
 mod writing;
 
+pub use answer::Answer;
 pub use exchange_end::ExchangeEnd;
 pub use exchanging::{exchange, make_exchange};
 pub use logged::Logged;

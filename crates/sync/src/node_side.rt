@@ -1,7 +1,8 @@
 //! A node as a side of a pass.
 
+use crate::answer::Answer;
 use crate::side::Side;
-use couch_http::{Request, Response};
+use couch_http::Request;
 use couch_json::Got;
 use node::Node;
 use std::alloc::Global;
@@ -14,7 +15,10 @@ impl<S: Store + Drop> Side for Node<S> {
 
     ghost answers = { IsServed S.Store };
 
-    fn answer(&mut self, _alloc: Global, request: &Request) -> Got<Option<Response>> {
-        Ok(Some(self.handle(request)))
+    // A node has no such call.
+    ghost breaks_off = { λ _ _ _. ⊥ };
+
+    fn answer(&mut self, _alloc: Global, request: &Request) -> Got<Answer> {
+        Ok(Answer::Reply(self.handle(request)))
     }
 }

@@ -80,6 +80,7 @@ pub fn watch_pass<S: Store + Drop, W: Write, T: Watch>(
     let end = play_to_end(world, repl, watch);
     watch.end();
     let end = end?;
+    watch.tell_end(&end);
     print_end(alloc, writer, &end)?;
     Ok(status_of(&end))
 }

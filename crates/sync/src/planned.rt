@@ -8,13 +8,12 @@ use crate::configuring::configure;
 use crate::creating::create_absent;
 use crate::passing::watch_pass;
 use crate::remote::Remote;
+use crate::series::sync_series;
 use crate::side::Side;
-use crate::sides::sync_sides;
 use crate::terminal::ProgressLine;
 use command_line::{ProgramFault, SyncPlan, SyncSide};
 use couch_json::Got;
 use node::Node;
-use repl::Replication;
 use server::open_node;
 use std::alloc::Global;
 use std::io;
@@ -82,7 +81,7 @@ pub fn sync_store<
     address: &'a str,
     watch: &mut ProgressLine<'_, R>,
 ) -> Result<u8, ProgramFault> {
-    let server = Address::new(rt, address, true);
+    let server = Address::new(rt, address, true, plan.patience);
     match &plan.source {
         SyncSide::File(_) => push(rt, plan, store, server, watch),
         SyncSide::Address(_) => pull(rt, plan, server, store, watch),
@@ -125,8 +124,8 @@ pub fn sync_addresses<'a, R: Net<Stream = TcpStream> + Clock + Print + Eprint + 
     watch: &mut ProgressLine<'_, R>,
 ) -> Result<u8, ProgramFault> {
     let keeps = from != to;
-    let source = Address::new(rt, from, keeps);
-    let target = Address::new(rt, to, keeps);
+    let source = Address::new(rt, from, keeps, plan.patience);
+    let target = Address::new(rt, to, keeps, plan.patience);
     relay(rt, plan, source, target, watch)
 }
 
@@ -153,9 +152,8 @@ fn play<R: Clock + Print + Eprint + AllocGlobal, F: Side, T: Side>(
 ) -> Result<u8, ProgramFault> {
     let alloc = rt.alloc();
     watch.ask_source(alloc, plan, source);
-    let mut pass = Replication::new(alloc, configure(alloc, plan)?)?;
     let mut out = io::writer(rt);
-    let status = sync_sides(alloc, source, target, &mut pass, &mut out, watch)?;
+    let status = sync_series(alloc, plan, source, target, &mut out, watch)?;
     out.flush()?;
     Ok(status)
 }

@@ -1,21 +1,22 @@
 //! A pass between two sides, from its start to its end.
 
-ghost use Rattle.std.specs.Prelude.{◌≡◌, ◌⊎◌, Err, IfErr, IfOk, OnErr, OnOk, Option, option_map};
+ghost use Rattle.std.specs.Prelude.{◌≡◌, ◌⊎◌, Err, IfErr, IfOk, OnErr, OnOk, option_map};
 ghost use Rattle.std.specs.Io.KnownBytes.{Appends};
 ghost use Rattle.couch_http.specs.Message.{message_of};
-ghost use Rattle.couch_http.specs.Reply.{Reply};
 ghost use Rattle.repl.specs.Asks.{ask_of, pass_of};
 ghost use Rattle.repl.specs.Passes.{Asked};
 ghost use Rattle.sync.specs.Ending.{IsUntold, StandsIn, end_text, status_of};
-ghost use Rattle.sync.specs.Sides.{BreaksOff, HasTurn, MayAnswer, pass_with_reply};
+ghost use Rattle.sync.specs.Sides.{BreaksOff, HasTurn, MayBreakOff, pass_with_answer};
 ghost use Rattle.sync.specs.Turns.{ComesToEnd, EndsBy, EndsEarly, StopsInTurn};
+ghost use Rattle.sync.specs.declared.answer.Answer.{Answer};
 
+use crate::answer::Answer;
 use crate::ending::{print_end, status_of};
 use crate::limits::MOST_TURNS;
 use crate::side::Side;
 use crate::watch::Watch;
 use command_line::ProgramFault;
-use couch_http::{Request, Response};
+use couch_http::Request;
 use couch_json::Got;
 use repl::{Ask, Replication};
 use std::alloc::Global;
@@ -41,7 +42,7 @@ pub fn sync_sides<F: Side, T: Side, W: Write, V: Watch>(
         × (status ≡ status_of asked) × Appends (W.contents writer.old) (W.contents writer.new) (end_text asked)) }
 
     // At a refusal the exchanges so far stand, and the side that was asked may have answered once more. What was printed before stands.
-    ensures early { F.is_honest source.new → T.is_honest target.new → OnErr result (EndsEarly (HasTurn F.answers T.answers) (BreaksOff F.answers T.answers)
+    ensures early { F.is_honest source.new → T.is_honest target.new → OnErr result (EndsEarly (HasTurn F.answers T.answers) (BreaksOff F.answers F.breaks_off T.answers T.breaks_off)
         (record { source = source.old; target = target.old; pass = pass_of pass.old })
         (record { source = source.new; target = target.new; pass = pass_of pass.new })) }
     ensures kept { OnErr result (StandsIn (W.contents writer.old) (W.contents writer.new)) }
@@ -49,7 +50,7 @@ pub fn sync_sides<F: Side, T: Side, W: Write, V: Watch>(
 
     // Where memory ran out nothing was printed.
     ensures memory { F.is_honest source.new → T.is_honest target.new → result ≡ Err ProgramFault.Memory
-        → StopsInTurn (HasTurn F.answers T.answers) (BreaksOff F.answers T.answers)
+        → StopsInTurn (HasTurn F.answers T.answers) (BreaksOff F.answers F.breaks_off T.answers T.breaks_off)
         (record { source = source.old; target = target.old; pass = pass_of pass.old })
         (record { source = source.new; target = target.new; pass = pass_of pass.new })
         × (W.contents writer.new ≡ W.contents writer.old) }
@@ -63,12 +64,13 @@ pub fn sync_sides<F: Side, T: Side, W: Write, V: Watch>(
     let end = play_to_end(alloc, source, target, pass, watch);
     watch.end();
     let end = end?;
+    watch.tell_end(&end);
     print_end(alloc, writer, &end)?;
     Ok(status_of(&end))
 }
 
 /// Plays a pass to its end, and returns what it says there.
-fn play_to_end<F: Side, T: Side, V: Watch>(
+pub(crate) fn play_to_end<F: Side, T: Side, V: Watch>(
     alloc: Global,
     source: &mut F,
     target: &mut T,
@@ -78,7 +80,7 @@ fn play_to_end<F: Side, T: Side, V: Watch>(
     ensures ended { F.is_honest source.new → T.is_honest target.new → IfOk result (λ end. ComesToEnd (HasTurn F.answers T.answers)
         (record { source = source.old; target = target.old; pass = pass_of pass.old }) (ask_of end)
         (record { source = source.new; target = target.new; pass = pass_of pass.new })) }
-    ensures early { F.is_honest source.new → T.is_honest target.new → IfErr result (EndsBy (HasTurn F.answers T.answers) (BreaksOff F.answers T.answers)
+    ensures early { F.is_honest source.new → T.is_honest target.new → IfErr result (EndsBy (HasTurn F.answers T.answers) (BreaksOff F.answers F.breaks_off T.answers T.breaks_off)
         (record { source = source.old; target = target.old; pass = pass_of pass.old })
         (record { source = source.new; target = target.new; pass = pass_of pass.new })) }
     ensures faults { IfErr result (λ fault. (fault ≡ ProgramFault.File) ⊎ (fault ≡ ProgramFault.Memory)) }
@@ -102,7 +104,7 @@ fn take_turn<F: Side, T: Side, V: Watch>(
     ensures turn { F.is_honest source.new → T.is_honest target.new → IfOk result (λ end. HasTurn F.answers T.answers
         (record { source = source.old; target = target.old; pass = pass_of pass.old }) (option_map ask_of end)
         (record { source = source.new; target = target.new; pass = pass_of pass.new })) }
-    ensures early { F.is_honest source.new → T.is_honest target.new → OnErr result (BreaksOff F.answers T.answers
+    ensures early { F.is_honest source.new → T.is_honest target.new → OnErr result (BreaksOff F.answers F.breaks_off T.answers T.breaks_off
         (record { source = source.old; target = target.old; pass = pass_of pass.old })
         (record { source = source.new; target = target.new; pass = pass_of pass.new })) }
     ensures source { F.is_honest source.new → F.is_honest source.old }
@@ -123,32 +125,36 @@ fn take_turn<F: Side, T: Side, V: Watch>(
     }
 }
 
-/// Has a side answer a request, and the pass take in the reply, or its loss.
+/// Has a side answer a request, and the pass take in the answer.
 fn ask_side<A: Side>(
     alloc: Global,
     side: &mut A,
     pass: &mut Replication,
     request: &Request,
 ) -> Got<()>
-    ensures ok { A.is_honest side.new → OnOk result ((reply : Option Reply) × A.answers side.old (message_of request.now) reply side.new
-        × (pass_of pass.new ≡ pass_with_reply (pass_of pass.old) reply)) }
-    ensures err { A.is_honest side.new → OnErr result (MayAnswer A.answers side.old (message_of request.now) side.new) }
+    ensures ok { A.is_honest side.new → OnOk result ((answer : Answer) × A.answers side.old (message_of request.now) answer side.new
+        × (pass_of pass.new ≡ pass_with_answer (pass_of pass.old) answer)) }
+    ensures err { A.is_honest side.new → OnErr result (MayBreakOff A.answers A.breaks_off side.old (message_of request.now) side.new) }
     ensures pass { OnErr result (pass_of pass.new ≡ pass_of pass.old) }
     ensures honest { A.is_honest side.new → A.is_honest side.old }
 {
-    let reply = side.answer(alloc, request)?;
-    take_in(pass, reply)
+    let answer = side.answer(alloc, request)?;
+    take_in(pass, answer)
 }
 
-/// Has the pass take in a reply, or its loss.
-fn take_in(pass: &mut Replication, reply: Option<Response>) -> Got<()>
-    ensures ok { OnOk result (pass_of pass.new ≡ pass_with_reply (pass_of pass.old) reply) }
+/// Has the pass take in an answer.
+fn take_in(pass: &mut Replication, answer: Answer) -> Got<()>
+    ensures ok { OnOk result (pass_of pass.new ≡ pass_with_answer (pass_of pass.old) answer) }
     ensures err { OnErr result (pass_of pass.new ≡ pass_of pass.old) }
 {
-    match reply {
-        Some(reply) => pass.answered(&reply),
-        None => {
+    match answer {
+        Answer::Reply(reply) => pass.answered(&reply),
+        Answer::Lost => {
             pass.lost();
+            Ok(())
+        }
+        Answer::Unreadable => {
+            pass.unreadable();
             Ok(())
         }
     }

@@ -4,7 +4,7 @@ ghost use Rattle.std.specs.Prelude.{◌≡◌, ◌⊎◌, ◌-◌, IfSome, Match
 ghost use Rattle.command_line.specs.Plan.{sync_of};
 ghost use Rattle.sync.specs.Configuring.{pass_configuration};
 ghost use Rattle.sync.specs.Information.{IsSaid, information_request};
-ghost use Rattle.sync.specs.Sides.{MayAnswer};
+ghost use Rattle.sync.specs.Sides.{MayBreakOff};
 ghost use Rattle.sync.specs.Terminal.{left_of};
 ghost use Rattle.sync.specs.declared.estimate.Pace.{Pace};
 
@@ -13,7 +13,8 @@ use crate::information::ask_update_seq;
 use crate::side::Side;
 use crate::watch::Watch;
 use command_line::SyncPlan;
-use repl::Progress;
+use couch_json::Json;
+use repl::{Ask, Progress, Replication, Report};
 use std::alloc::Global;
 use std::io::Eprint;
 use std::time::{Clock, Instant};
@@ -23,6 +24,8 @@ use std::time::{Clock, Instant};
 pub struct ProgressLine<'a, R: Eprint + Clock> {
     rt: &'a R,
     is_terminal: bool,
+    /// What was refused is told even where it is none.
+    is_logged: bool,
     /// Something stands on the line.
     is_begun: bool,
     /// The greatest sequence that the source had before the pass, where it is known.
@@ -38,11 +41,12 @@ struct FirstCheckpoint {
 }
 
 impl<'a, R: Eprint + Clock> ProgressLine<'a, R> {
-    /// Makes a line on which nothing stands.
-    pub fn new(rt: &'a R, is_terminal: bool) -> ProgressLine<'a, R> {
+    /// Makes a line on which nothing stands. What was refused is told on a terminal, or where it is logged.
+    pub fn new(rt: &'a R, is_terminal: bool, is_logged: bool) -> ProgressLine<'a, R> {
         ProgressLine {
             rt,
             is_terminal,
+            is_logged,
             is_begun: false,
             update_seq: None,
             first: None,
@@ -51,7 +55,7 @@ impl<'a, R: Eprint + Clock> ProgressLine<'a, R> {
 
     /// Asks the source of a pass how far its database goes, before the pass, where standard error is a terminal.
     pub fn ask_source<S: Side>(&mut self, alloc: Global, plan: &SyncPlan, source: &mut S)
-        ensures asked { S.is_honest source.new → MayAnswer S.answers source.old (information_request (pass_configuration (sync_of plan.now))) source.new }
+        ensures asked { S.is_honest source.new → MayBreakOff S.answers S.breaks_off source.old (information_request (pass_configuration (sync_of plan.now))) source.new }
         ensures silent { self.old.is_terminal ≡ false → source.new ≡ source.old }
         ensures said { S.is_honest source.new → (self.new.update_seq ≡ self.old.update_seq)
             ⊎ IsSaid S.answers source.old (information_request (pass_configuration (sync_of plan.now))) self.new.update_seq source.new }
@@ -62,6 +66,27 @@ impl<'a, R: Eprint + Clock> ProgressLine<'a, R> {
         if let Ok(update_seq) = ask_update_seq(alloc, plan, source) {
             self.update_seq = update_seq;
         }
+    }
+
+    /// Something is told of the end of a pass: on a terminal, or where the words say so.
+    fn tells(&self) -> bool {
+        self.is_terminal || self.is_logged
+    }
+
+    /// Tells how many documents were refused, and the first of them.
+    fn tell_refused(&mut self, report: &Report) {
+        let Some(first) = report.refused.first() else {
+            return;
+        };
+        if !self.tells() {
+            return;
+        }
+        let count = report.refused.len();
+        let id = text_at(first, "id");
+        let cause = cause_of(first);
+        let _ = eprintln!(self.rt;
+            "couchd: {count} refused, the first {id} by {cause}: run it with --from-start once the target admits them"
+        );
     }
 
     /// Writes the line. What stood there may be longer, so behind the text it is erased (ECMA-48, `EL`).
@@ -113,6 +138,46 @@ impl<R: Eprint + Clock> Watch for ProgressLine<'_, R> {
         if self.is_begun {
             let _ = eprintln!(self.rt);
         }
+        self.is_begun = false;
+    }
+
+    fn tell_end(&mut self, end: &Ask) {
+        match end {
+            Ask::Done(report) | Ask::Stopped(_, report) => self.tell_refused(report),
+            Ask::ToSource(_) | Ask::ToTarget(_) => {}
+        }
+    }
+
+    fn tell_too_long(&mut self, pass: &Replication) {
+        if !self.tells() {
+            return;
+        }
+        let Some(id) = pass.first_unsent() else {
+            return;
+        };
+        if let Ok(length) = pass.unsent_length() {
+            let _ = eprintln!(self.rt;
+                "couchd: too long for the target: {id}, {length} bytes with all its leaves"
+            );
+        }
+    }
+}
+
+/// Returns the text of a member, or nothing.
+fn text_at<'a>(value: &'a Json, name: &str) -> &'a str {
+    match value.member(name) {
+        Some(member) => member.text().unwrap_or(""),
+        None => "",
+    }
+}
+
+/// Returns the rule that refused, or else the error.
+fn cause_of(value: &Json) -> &str {
+    let rule = text_at(value, "rule");
+    if rule.is_empty() {
+        text_at(value, "error")
+    } else {
+        rule
     }
 }
 

@@ -9,4 +9,6 @@ pub(crate) enum Turn {
     Whole(Response),
     /// It won't come.
     Lost,
+    /// The bytes are no reply.
+    Broken,
 }

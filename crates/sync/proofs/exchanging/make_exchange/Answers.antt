@@ -26,5 +26,5 @@ returns-clause-exchange g c =
     IfOk-weaker c.read_reply.result _ _ (λ end read.
     sent (request_text (message_of c.args.request.now)) input rest output after c.write_logged.result
     (subst (λ b. Writes b output after c.write_logged.result) (c.deref.ensures.value ∙ c.in_ok-bytes.ensures) c.write_logged.ensures)
-    end.reply end.read c.if-not-write_logged.false read)
+    end.answer end.read c.if-not-write_logged.false read)
     c.read_reply.ensures

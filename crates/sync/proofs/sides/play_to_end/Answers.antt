@@ -5,10 +5,10 @@ use Rattle.sync.proofs.sides.play_to_end.Goals as goal
 
 pub returns-in_err-end-clause-early : goal.returns-in_err-end-clause-early
 returns-in_err-end-clause-early g c = λ source target.
-    by_memory (HasTurn g.F.Side.answers g.T.Side.answers) (BreaksOff g.F.Side.answers g.T.Side.answers) c.from_residual.result
+    by_memory (HasTurn g.F.Side.answers g.T.Side.answers) (BreaksOff g.F.Side.answers g.F.Side.breaks_off g.T.Side.answers g.T.Side.breaks_off) c.from_residual.result
     (record { source = c.args.source.now; target = c.args.target.now; pass = pass_of c.args.pass.now })
     (record { source = c.take_turn.new.source; target = c.take_turn.new.target; pass = pass_of c.take_turn.new.pass }) c.from_residual.ensures.1
-    (stops_in_turn (HasTurn g.F.Side.answers g.T.Side.answers) (BreaksOff g.F.Side.answers g.T.Side.answers) c.loop-turn._turn
+    (stops_in_turn (HasTurn g.F.Side.answers g.T.Side.answers) (BreaksOff g.F.Side.answers g.F.Side.breaks_off g.T.Side.answers g.T.Side.breaks_off) c.loop-turn._turn
     (record { source = c.args.source.now; target = c.args.target.now; pass = pass_of c.args.pass.now })
     (record { source = c.loop-turn.source; target = c.loop-turn.target; pass = pass_of c.loop-turn.pass })
     (record { source = c.take_turn.new.source; target = c.take_turn.new.target; pass = pass_of c.take_turn.new.pass })

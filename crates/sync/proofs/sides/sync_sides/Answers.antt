@@ -10,7 +10,7 @@ use Rattle.sync.proofs.sides.sync_sides.Goals as goal
 pub returns-in_err-print_end-clause-early : goal.returns-in_err-print_end-clause-early
 returns-in_err-print_end-clause-early g c = λ source target.
     on_err c.from_residual-in_err-print_end.result
-    (inl (stops_at_end (HasTurn g.F.Side.answers g.T.Side.answers) (BreaksOff g.F.Side.answers g.T.Side.answers) (sides_end_break_off g.F.Side.answers g.T.Side.answers)
+    (inl (stops_at_end (HasTurn g.F.Side.answers g.T.Side.answers) (BreaksOff g.F.Side.answers g.F.Side.breaks_off g.T.Side.answers g.T.Side.breaks_off) (sides_end_break_off g.F.Side.answers g.F.Side.breaks_off g.T.Side.answers g.T.Side.breaks_off)
     (record { source = c.args.source.now; target = c.args.target.now; pass = pass_of c.args.pass.now })
     (record { source = c.play_to_end-end.new.source; target = c.play_to_end-end.new.target; pass = pass_of c.play_to_end-end.new.pass })
     (ask_of c.in_ok-end.end) (c.in_ok-end.ensures.ended source target)))
@@ -22,7 +22,7 @@ returns-in_err-print_end-clause-kept g c =
 
 pub returns-in_err-print_end-clause-memory : goal.returns-in_err-print_end-clause-memory
 returns-in_err-print_end-clause-memory g c = λ source target memory. (
-  stops_at_end (HasTurn g.F.Side.answers g.T.Side.answers) (BreaksOff g.F.Side.answers g.T.Side.answers) (sides_end_break_off g.F.Side.answers g.T.Side.answers)
+  stops_at_end (HasTurn g.F.Side.answers g.T.Side.answers) (BreaksOff g.F.Side.answers g.F.Side.breaks_off g.T.Side.answers g.T.Side.breaks_off) (sides_end_break_off g.F.Side.answers g.F.Side.breaks_off g.T.Side.answers g.T.Side.breaks_off)
       (record { source = c.args.source.now; target = c.args.target.now; pass = pass_of c.args.pass.now })
       (record { source = c.play_to_end-end.new.source; target = c.play_to_end-end.new.target; pass = pass_of c.play_to_end-end.new.pass })
       (ask_of c.in_ok-end.end) (c.in_ok-end.ensures.ended source target),
