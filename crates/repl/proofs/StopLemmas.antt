@@ -7,7 +7,7 @@ use Rattle.repl.specs.Configuration.{PassConfiguration}
 use Rattle.repl.specs.Passes.{Pass, answered_in, answered_of, answers_list, answers_open, answers_push, failures_taken, first_pass, list_taken, opened_taken, where_answers, is_written, lost_in, lost_of, most_losses, pass_after, phase_after_list, phase_after_loss, phase_after_round, phase_with, stopped_at, with_changes, with_lacking, with_failures, with_loss, with_opened, with_source, with_source_reread, with_source_written, with_target, with_target_reread, with_target_written}
 use Rattle.repl.specs.Replies.{changes_in_reply, checkpoint_read, checkpoint_written, differences_in_reply, differences_read, documents_of_opened, failure_in, is_missing, nothing_stored, opened_in, revision_in_reply, said_at, said_or_reply, stored_in, value_in}
 use Rattle.repl.specs.Shapes.{list_in}
-use Rattle.repl.specs.Causes.{HasCause, IsCause, IsFault, expects, has_shape, is_of, losses_in, says_none, shape_within}
+use Rattle.repl.specs.Causes.{IsStoppedBy, IsCause, IsFault, expects, has_shape, is_of, losses_in, says_none, shape_within}
 use Rattle.repl.specs.Turns.{Turn, after_turn, after_turns, answered, lost}
 use Rattle.repl.specs.declared.phase.Phase.{Phase}
 use Rattle.repl.specs.declared.phase.Phase.TheVariants.{ReadSource, ReadTarget, ListChanges, Compare, Open, Push, WriteSource, WriteTarget, RereadSource, RereadTarget, Done, Stopped}
@@ -254,13 +254,13 @@ same_why : (a b : Why) → Stopped a ≡ Stopped b → a ≡ b
 same_why a b e = cc
 
 stopped_from : (c : Pass) (before ts : List Turn) (why : Why) → Going (after_turns c before).phase (after_turns c before) (losses_in before)
-    → (after_turns (after_turns c before) ts).phase ≡ Stopped why → HasCause c why (before ++ ts)
+    → (after_turns (after_turns c before) ts).phase ≡ Stopped why → IsStoppedBy c why (before ++ ts)
 stopped_from c before [] why h e = absurd (going_on (after_turns c before) (losses_in before) why h e)
 stopped_from c before (t ∷ ts) why h e =
     by (one_turn c before t h) (λ (g : Going (after_turns c (before ++ t ∷ [])).phase (after_turns c (before ++ t ∷ [])) (losses_in (before ++ t ∷ []))) (k : (after_turns (after_turns c (before ++ t ∷ [])) ts).phase ≡ Stopped why).
     stopped_from c (before ++ t ∷ []) ts why g k)
   where
-    by : Turned (after_turn (after_turns c before) t) (losses_in (before ++ t ∷ [])) (λ why. IsCause why (after_turns c before) before t) → (Going (after_turns c (before ++ t ∷ [])).phase (after_turns c (before ++ t ∷ [])) (losses_in (before ++ t ∷ [])) → (after_turns (after_turns c (before ++ t ∷ [])) ts).phase ≡ Stopped why → HasCause c why ((before ++ t ∷ []) ++ ts)) → HasCause c why (before ++ t ∷ ts)
+    by : Turned (after_turn (after_turns c before) t) (losses_in (before ++ t ∷ [])) (λ why. IsCause why (after_turns c before) before t) → (Going (after_turns c (before ++ t ∷ [])).phase (after_turns c (before ++ t ∷ [])) (losses_in (before ++ t ∷ [])) → (after_turns (after_turns c (before ++ t ∷ [])) ts).phase ≡ Stopped why → IsStoppedBy c why ((before ++ t ∷ []) ++ ts)) → IsStoppedBy c why (before ++ t ∷ ts)
     by (halts first is cause) onward =
         let q = after_turn (after_turns c before) t in
         let kept : (after_turns q ts).phase ≡ q.phase = ap (λ (p : Pass). p.phase) (stays q first ts is) in
@@ -269,9 +269,9 @@ stopped_from c before (t ∷ ts) why h e =
     by (lives going) onward =
         let one : after_turns c (before ++ t ∷ []) ≡ after_turn (after_turns c before) t = turns_more c before (t ∷ []) in
         let order : (before ++ t ∷ []) ++ ts ≡ before ++ t ∷ ts = append_assoc before (t ∷ []) ts in
-        subst (λ (us : List Turn). HasCause c why us) order
+        subst (λ (us : List Turn). IsStoppedBy c why us) order
         (onward (subst (λ (q : Pass). Going q.phase q (losses_in (before ++ t ∷ []))) (sym one) going)
         (ap (λ (q : Pass). (after_turns q ts).phase) one ∙ e))
 
-pub stop_cause : (c : PassConfiguration) (ts : List Turn) (why : Why) → (after_turns (first_pass c) ts).phase ≡ Stopped why → HasCause (first_pass c) why ts
+pub stop_cause : (c : PassConfiguration) (ts : List Turn) (why : Why) → (after_turns (first_pass c) ts).phase ≡ Stopped why → IsStoppedBy (first_pass c) why ts
 stop_cause c ts why e = stopped_from (first_pass c) [] ts why (refl, omega arith) e

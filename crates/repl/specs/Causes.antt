@@ -76,7 +76,7 @@ IsCause why p before (answered status body) = IsFault why status (expects p.phas
 IsCause why p before lost = (why ≡ Lost) × (losses_in before ≡ most_losses)
 
 -- one of these turns is the cause
-pub record HasCause (p : Pass) (why : Why) (ts : List Turn) : Type 0 where
+pub record IsStoppedBy (p : Pass) (why : Why) (ts : List Turn) : Type 0 where
   pub before : List Turn
   pub turn : Turn
   pub rest : List Turn

@@ -285,9 +285,9 @@ where_answers answers (Ok a) = if answers a then Ok a else Err Reply
 where_answers answers (Err why) = Err why
 
 -- a list has at most as many documents as a batch has
-abbrev pub is_within : Option ℕ → List Revisions → Bool
-is_within None leaves = true
-is_within (Some size) leaves = nat_le (length leaves) size
+abbrev pub is_within_batch : Option ℕ → List Revisions → Bool
+is_within_batch None leaves = true
+is_within_batch (Some size) leaves = nat_le (length leaves) size
 
 -- a list that is full ends above the sequence after which it begins, so the next one lists others
 abbrev pub goes_on : ℕ → Option ℕ → Changes → Bool
@@ -295,7 +295,7 @@ goes_on since batch c = not (fills batch c.leaves) || nat_lt since c.sequence
 
 -- the changes that were asked for
 abbrev pub answers_list : Pass → Changes → Bool
-answers_list p c = is_within p.configuration.batch c.leaves && goes_on p.since p.configuration.batch c
+answers_list p c = is_within_batch p.configuration.batch c.leaves && goes_on p.since p.configuration.batch c
 
 -- no more revisions of a document than were asked for
 abbrev pub answers_open : Pass → List Opened → Bool

@@ -47,6 +47,7 @@ told_in RereadTarget p status body = []
 told_in Done p status body = []
 told_in (Stopped why) p status body = []
 
+-- what a turn says that is to be reported
 abbrev pub told_at : Pass → Turn → List Value
 told_at p (answered status body) = told_in p.phase p status body
 told_at p lost = []

@@ -3,7 +3,7 @@
 ghost use Rattle.std.specs.Prelude.{◌≡◌, ◌<◌, ℕ, List, not, All, if◌then◌else◌};
 ghost use Rattle.percent_encoding.specs.AsciiSet.{contains};
 ghost use Rattle.percent_encoding.specs.Percent.{percent_decode};
-ghost use Rattle.repl.specs.Causes.{HasCause};
+ghost use Rattle.repl.specs.Causes.{IsStoppedBy};
 ghost use Rattle.repl.specs.Configuration.{PassConfiguration};
 ghost use Rattle.repl.specs.Passes.{first_pass};
 ghost use Rattle.repl.specs.Spelling.{is_unreserved, reserved_bytes, segment};
@@ -38,5 +38,5 @@ pub fn start_is_that_of_the_checkpoints()
 /// a reply of an expected status whose body has not the shape, or the 101st loss.
 pub fn stops_have_causes()
     ensures { (c : PassConfiguration) (ts : List Turn) (why : Why) → (after_turns (first_pass c) ts).phase ≡ Stopped why
-        → HasCause (first_pass c) why ts }
+        → IsStoppedBy (first_pass c) why ts }
 {}

@@ -12,7 +12,7 @@ ghost use Rattle.repl.specs.Ending.{progress_of};
 ghost use Rattle.repl.specs.Kept.{checkpoint_of, session_of};
 ghost use Rattle.repl.specs.Listed.{revisions_of};
 ghost use Rattle.repl.specs.Passes.{answered_in, answered_of, answers_list, asked_of, checkpoint_after, fills, first_document, first_of_pending, first_pass};
-ghost use Rattle.repl.specs.Passes.{has_ended, is_within, is_written, lost_of, unreadable_of, phase_after_list, phase_after_round, with_failures};
+ghost use Rattle.repl.specs.Passes.{has_ended, is_within_batch, is_written, lost_of, unreadable_of, phase_after_list, phase_after_round, with_failures};
 ghost use Rattle.repl.specs.Passes.{with_opened, phase_after_loss, phase_with, sent_to, summary_of, with_loss};
 ghost use Rattle.repl.specs.Taken.{changes_of, opened_of};
 
@@ -358,7 +358,7 @@ impl Replication {
     fn answers_list(&self, changes: &ChangesListed) -> bool
         ensures { result ≡ answers_list (pass_of self.now) (changes_of changes.now) }
     {
-        is_within(&self.config.batch, &changes.leaves)
+        is_within_batch(&self.config.batch, &changes.leaves)
             && (!fills(&self.config.batch, &changes.leaves)
                 || self.since.value() < changes.sequence.value())
     }
@@ -639,8 +639,8 @@ fn fills(batch: &Option<Batch>, leaves: &[DocumentRevisions]) -> bool
 }
 
 /// Tells whether a listing has at most as many results as a batch has. Without a batch it always has.
-fn is_within(batch: &Option<Batch>, leaves: &[DocumentRevisions]) -> bool
-    ensures { result ≡ is_within (option_map batch_size batch.now) (map revisions_of leaves.now) }
+fn is_within_batch(batch: &Option<Batch>, leaves: &[DocumentRevisions]) -> bool
+    ensures { result ≡ is_within_batch (option_map batch_size batch.now) (map revisions_of leaves.now) }
 {
     match batch {
         Some(batch) => leaves.len() as u64 <= batch.size(),

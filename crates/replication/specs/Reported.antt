@@ -1,7 +1,7 @@
 -- What a pass says at the end of a course follows from its turns: what it reports, where it began, and why it stopped.
 -- CouchDB manual, replication/protocol; how a pass reports and stops is this project's own.
 use Rattle.std.specs.Prelude.{◌≡◌, ◌==◌, ℕ, List, [], ◌∷◌, map, Some, if◌then◌else◌}
-use Rattle.repl.specs.Causes.{HasCause}
+use Rattle.repl.specs.Causes.{IsStoppedBy}
 use Rattle.repl.specs.Configuration.{PassConfiguration}
 use Rattle.repl.specs.Passes.{Pass, first_pass}
 use Rattle.repl.specs.Turns.{after_turns, has_listed, replies_in, start_by, told_of}
@@ -51,4 +51,4 @@ StartsAreReadInCourses {S} step =
 abbrev pub StopsHaveCausesInCourses : {S : Type 0} → StepOf S → Type 0
 StopsHaveCausesInCourses {S} step =
     (n : ℕ) (c : PassConfiguration) (old new : Network S) (course : Course step old new) (p : Pass) (why : Why) → pass_at old.transfers n ≡ Some (first_pass c)
-    → pass_at new.transfers n ≡ Some p → p.phase ≡ Stopped why → HasCause (first_pass c) why (turns_through course n)
+    → pass_at new.transfers n ≡ Some p → p.phase ≡ Stopped why → IsStoppedBy (first_pass c) why (turns_through course n)

@@ -1,6 +1,7 @@
 pub mod Turns
 pub mod Printing
 pub mod Refusals
+pub mod Batches
 pub mod Absence
 pub mod Segments
 pub mod Logs

@@ -6,7 +6,7 @@ ghost use Rattle.command_line.specs.Plan.{sync_of};
 ghost use Rattle.repl.specs.Asks.{ask_of, pass_of, report_of};
 ghost use Rattle.repl.specs.Passes.{Asked};
 ghost use Rattle.sync.specs.Ending.{StandsIn, end_text, status_of};
-ghost use Rattle.sync.specs.Series.{IsSeries, is_too_long, joined_end, narrowed};
+ghost use Rattle.sync.specs.Series.{IsSeries, is_too_long, joined_end, narrowed, reported_before};
 
 use crate::configuring::configure_with;
 use crate::ending::{print_end, status_of};
@@ -83,18 +83,35 @@ fn play_series<F: Side, T: Side, V: Watch>(
         let mut pass = Replication::new(alloc, config)?;
         let end = play_to_end(alloc, source, target, &mut pass, watch)?;
         let end = join_end(earlier, end)?;
-        match end {
-            Ask::Stopped(why, report) if is_too_long(manner.batch, why) => {
+        match reported_before(manner.batch, end) {
+            Ok(report) => {
                 earlier = Some(report);
                 manner = narrow(manner, pass.checkpoint_sequence());
             }
-            end => {
+            Err(end) => {
                 tell_too_long(&pass, &end, watch);
                 return Ok(end);
             }
         }
     }
     Err(ProgramFault::File)
+}
+
+/// Returns the report of a pass that goes on with a smaller batch, or else what was said at its end.
+fn reported_before(batch: u32, end: Ask) -> Result<Report, Ask>
+    ensures goes { IfOk result (λ report. reported_before batch (ask_of end) ≡ Some (report_of report)) }
+    ensures ends { IfErr result (λ same. (reported_before batch (ask_of end) ≡ None) × (ask_of same ≡ ask_of end)) }
+{
+    match end {
+        Ask::Stopped(why, report) => {
+            if is_too_long(batch, why) {
+                Ok(report)
+            } else {
+                Err(Ask::Stopped(why, report))
+            }
+        }
+        end => Err(end),
+    }
 }
 
 /// Tells whether the target refused a batch as too long, and there is a smaller one.

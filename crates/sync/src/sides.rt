@@ -84,6 +84,8 @@ pub(crate) fn play_to_end<F: Side, T: Side, V: Watch>(
         (record { source = source.old; target = target.old; pass = pass_of pass.old })
         (record { source = source.new; target = target.new; pass = pass_of pass.new })) }
     ensures faults { IfErr result (λ fault. (fault ≡ ProgramFault.File) ⊎ (fault ≡ ProgramFault.Memory)) }
+    ensures source { F.is_honest source.new → F.is_honest source.old }
+    ensures target { T.is_honest target.new → T.is_honest target.old }
 {
     for _turn in 0..MOST_TURNS {
         if let Some(end) = take_turn(alloc, source, target, pass, watch)? {

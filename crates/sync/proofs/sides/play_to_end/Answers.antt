@@ -12,24 +12,28 @@ returns-in_err-end-clause-early g c = λ source target.
     (record { source = c.args.source.now; target = c.args.target.now; pass = pass_of c.args.pass.now })
     (record { source = c.loop-turn.source; target = c.loop-turn.target; pass = pass_of c.loop-turn.pass })
     (record { source = c.take_turn.new.source; target = c.take_turn.new.target; pass = pass_of c.take_turn.new.pass })
-    c.loop-turn-test.true (c.loop-turn.invariant (c.in_err-end.ensures.source source) (c.in_err-end.ensures.target target)) (c.in_err-end.ensures.early source target))
+    c.loop-turn-test.true (c.loop-turn.invariant.goes (c.in_err-end.ensures.source source) (c.in_err-end.ensures.target target)) (c.in_err-end.ensures.early source target))
 
 pub returns-in-Some-clause-ended : goal.returns-in-Some-clause-ended
 returns-in-Some-clause-ended g c = λ source target.
     comes_to_end (HasTurn g.F.Side.answers g.T.Side.answers) c.loop-turn._turn (record { source = c.args.source.now; target = c.args.target.now; pass = pass_of c.args.pass.now })
     (record { source = c.loop-turn.source; target = c.loop-turn.target; pass = pass_of c.loop-turn.pass })
     (record { source = c.take_turn.new.source; target = c.take_turn.new.target; pass = pass_of c.take_turn.new.pass })
-    c.in_ok-end.field-0 c.in-Some.end c.loop-turn-test.true (c.loop-turn.invariant (c.in_ok-end.ensures.source source) (c.in_ok-end.ensures.target target))
+    c.in_ok-end.field-0 c.in-Some.end c.loop-turn-test.true (c.loop-turn.invariant.goes (c.in_ok-end.ensures.source source) (c.in_ok-end.ensures.target target))
     (c.in_ok-end.ensures.turn source target) c.in-Some.is
 
 pub loop-turn-preserved : goal.loop-turn-preserved
-loop-turn-preserved g c = λ source target.
-    goes_further (HasTurn g.F.Side.answers g.T.Side.answers) c.loop-turn._turn (record { source = c.args.source.now; target = c.args.target.now; pass = pass_of c.args.pass.now })
+loop-turn-preserved g c = record {
+  goes = λ source target.
+      goes_further (HasTurn g.F.Side.answers g.T.Side.answers) c.loop-turn._turn (record { source = c.args.source.now; target = c.args.target.now; pass = pass_of c.args.pass.now })
     (record { source = c.loop-turn.source; target = c.loop-turn.target; pass = pass_of c.loop-turn.pass })
     (record { source = c.take_turn.new.source; target = c.take_turn.new.target; pass = pass_of c.take_turn.new.pass })
-    c.in_ok-end.field-0 (c.loop-turn.invariant (c.in_ok-end.ensures.source source) (c.in_ok-end.ensures.target target)) (c.in_ok-end.ensures.turn source target) c.in_default.is
+    c.in_ok-end.field-0 (c.loop-turn.invariant.goes (c.in_ok-end.ensures.source source) (c.in_ok-end.ensures.target target)) (c.in_ok-end.ensures.turn source target) c.in_default.is;
+  source = λ source. c.loop-turn.invariant.source (c.in_ok-end.ensures.source source);
+  target = λ target. c.loop-turn.invariant.target (c.in_ok-end.ensures.target target);
+}
 
 pub returns-clause-early : goal.returns-clause-early
 returns-clause-early g c = λ source target.
     runs_out (HasTurn g.F.Side.answers g.T.Side.answers) c.loop-turn._turn (record { source = c.args.source.now; target = c.args.target.now; pass = pass_of c.args.pass.now })
-    (record { source = c.loop-turn.source; target = c.loop-turn.target; pass = pass_of c.loop-turn.pass }) c.loop-turn.auto._turn-end c.loop-turn-test.false (c.loop-turn.invariant source target)
+    (record { source = c.loop-turn.source; target = c.loop-turn.target; pass = pass_of c.loop-turn.pass }) c.loop-turn.auto._turn-end c.loop-turn-test.false (c.loop-turn.invariant.goes source target)
