@@ -1,7 +1,6 @@
 -- What the log of a server's failures holds.
 -- This project's own.
-use Rattle.std.specs.Prelude.{ℕ, List, map, string_bytes}
-use Rattle.std.specs.String.{String}
+use Rattle.std.specs.Prelude.{ℕ, List, String, map, string_bytes}
 use Rattle.hub.specs.Failing.{FailedRequest}
 
 -- the requests of its entries, in order
