@@ -1,11 +1,14 @@
 -- One connection more, and none of many.
 use Rattle.std.proofs.Common.{◌≡◌, ◌≢◌, ◌∙◌, ◌<◌, ◌≤◌, ℕ, ◌+◌, Bool, true, false, List, [], ◌∷◌, ◌++◌, None, refl, sym, ap, subst, arith, append_assoc, append-nil, length, length-append, true≢false}
-use Rattle.std.specs.FinMap.{empty}
+use Rattle.std.specs.FinMap.{empty, len-empty}
+use Rattle.std.specs.Ordering.{nat_cmp}
 use Rattle.std.specs.Prelude.{OnErr, OnOk, Result, Ok, Err}
+use Rattle.std.specs.Result.{IsErrAnd}
 use Rattle.store.specs.declared.store.Store.{Ghosts}
 use Rattle.hub.specs.Feeding.{HubState}
 use Rattle.engine.specs.Counts.{ServesWithin}
 use Rattle.engine.specs.Desks.{Moment}
+use Rattle.engine.specs.Standing.{Standing}
 use Rattle.server.specs.Accepting.{AreConnections, Serves, ServesEach, ServesOne}
 use Rattle.server.specs.Serving.{ServesMany, ServesManyWithin, limits_of}
 use Rattle.server.specs.declared.acceptance.Acceptance.{Acceptance}
@@ -77,12 +80,15 @@ pub serves_none : {S : Type 0} (g : Ghosts S) (hub : HubState S) → ServesMany 
 serves_none g hub = (None, None, record { deeds = []; standings = empty; logs = tt; runs = refl })
 
 -- and within any limits, where that is a refusal
-pub within_none : {S A E : Type 0} (g : Ghosts S) (conns at_once : ℕ) (e : E) (hub : HubState S) → ServesManyWithin {S = S} {A = A} {E = E} g (limits_of conns at_once) (Err e) hub hub
-within_none g conns at_once e hub = (
-  None,
-  None,
-  record { deeds = []; standings = empty; logs = tt; runs = (omega arith, refl); accepts = omega arith; opens = omega arith; ends = tt },
-)
+pub within_none : {S A E : Type 0} {P : E → Type 0} (g : Ghosts S) (conns at_once : ℕ) (r : Result A E) (hub : HubState S) → IsErrAnd r P → ServesManyWithin g (limits_of conns at_once) r hub hub
+within_none g conns at_once (Ok a) hub refused = absurd refused
+within_none g conns at_once (Err e) hub refused =
+    let nobody = len-empty nat_cmp Standing in
+    (
+      None,
+      None,
+      record { deeds = []; standings = empty; logs = tt; runs = (omega (arith, nobody), refl); accepts = omega arith; opens = omega arith; ends = tt },
+    )
 
 -- what was served within the engine's limits, by the words of the program, whose answer is `Ok` where the engine's is
 pub within_words : {S A E B F : Type 0} (g : Ghosts S) (conns at_once n : ℕ) (r : Result A E) (s : Result B F) (old new : Moment S) → n ≡ conns → ServesWithin g (limits_of n at_once) r old new

@@ -28,7 +28,6 @@ const REQUEST: u64 = 30;
 ///
 /// `Socket`: the port can't be bound, nothing be waited for, or a connection not be accepted. `File`:
 /// the line can't be printed. `Memory`: memory ran out before it listened.
-#[tactic(auto, using(crate::proofs::ServingLemmas::serves_none, crate::proofs::ServingLemmas::within_none))]
 pub fn serve_many<R: Net + Clock + Print + AllocGlobal, S: Store + Drop, L: FailureLog + Drop>(
     rt: &R,
     hub: &mut Hub<S, L>,
