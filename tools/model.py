@@ -583,17 +583,38 @@ class Database:
 
 # ---- nodes
 
+class OtherNumber:
+    """A number that no value has: one with a fraction or an exponent, -0, or one beyond 64 bits."""
+
+
 def json_in(text):
-    """Returns the value of a JSON text, which has whole numbers of 64 bits alone; `ValueError` where it is none."""
-    return json.loads(text, parse_int=whole_in, parse_float=whole_in, parse_constant=whole_in)
+    """Returns the value of a JSON text; `ValueError` where it is none, or where a number is left that no value has."""
+    value = json.loads(text, parse_int=whole_in, parse_float=number_in, parse_constant=refuse_number)
+    if has_other_number(value):
+        raise ValueError(text)
+    return value
 
 
 def whole_in(numeral):
-    """Returns a whole number; -0 and what is beyond 64 bits are refused, as is another number."""
+    """Returns a whole number, or what stands for another one."""
     number = int(numeral)
-    if numeral == "-0" or not -(2**63) <= number < 2**64:
-        raise ValueError(numeral)
-    return number
+    return OtherNumber() if numeral == "-0" or not -(2**63) <= number < 2**64 else number
+
+
+def number_in(numeral):
+    """Returns what stands for a number with a fraction or an exponent; one beyond all of them is refused."""
+    return refuse_number(numeral) if abs(float(numeral)) == float("inf") else OtherNumber()
+
+
+def refuse_number(numeral):
+    """Refuses a text that no value is read of, wherever it stands."""
+    raise ValueError(numeral)
+
+
+def has_other_number(value):
+    """Tells whether a value has a number in it that no value has."""
+    parts = value.values() if isinstance(value, dict) else value if isinstance(value, list) else ()
+    return isinstance(value, OtherNumber) or any(map(has_other_number, parts))
 
 
 def is_json(text, has_form=lambda value: True):
