@@ -1,8 +1,8 @@
 """Answers requests as docs/PROFILE.md says, in plain python: what fuzz_passes, disk_check, index_check and documents compare with.
 
 It was written from the page, and has nothing of the program. What it doesn't know it isn't asked: requests
-have lawful ids, and bodies of the shape that is asked for. Selectors and finds may have any shape. A user is the
-text of a name, which may have roles (`User`), or None. A body and a reply are bytes, so no value is held by two.
+have lawful ids, and bodies of the shape that is asked for. Queries, selectors and finds may have any shape. A user
+is the text of a name, which may have roles (`User`), or None. A body and a reply are bytes, so no value is held by two.
 """
 import hashlib
 import json
@@ -294,6 +294,9 @@ def is_met(name, argument, current, whole):
     return is_true(argument, values_at([name], current[0]) or [] if current else [], whole)
 
 
+# ---- databases
+
+
 def sorted_by(field):
     """Returns the path and the direction of a field of a sort, or None where it has another form."""
     field = {field: "asc"} if isinstance(field, str) else field
@@ -580,21 +583,83 @@ class Database:
 
 # ---- nodes
 
-RANGE = {"descending", "endkey", "inclusive_end", "limit", "skip", "startkey"}
-# For each page the methods that it has, with the parameters that each takes.
+class OtherNumber:
+    """A number that no value has: one with a fraction or an exponent, -0, or one beyond 64 bits."""
+
+
+def json_in(text):
+    """Returns the value of a JSON text; `ValueError` where it is none, or where a number is left that no value has."""
+    value = json.loads(text, parse_int=whole_in, parse_float=number_in, parse_constant=refuse_number)
+    if has_other_number(value):
+        raise ValueError(text)
+    return value
+
+
+def whole_in(numeral):
+    """Returns a whole number, or what stands for another one."""
+    number = int(numeral)
+    return OtherNumber() if numeral == "-0" or not -(2**63) <= number < 2**64 else number
+
+
+def number_in(numeral):
+    """Returns what stands for a number with a fraction or an exponent; one beyond all of them is refused."""
+    return refuse_number(numeral) if abs(float(numeral)) == float("inf") else OtherNumber()
+
+
+def refuse_number(numeral):
+    """Refuses a text that no value is read of, wherever it stands."""
+    raise ValueError(numeral)
+
+
+def has_other_number(value):
+    """Tells whether a value has a number in it that no value has."""
+    parts = value.values() if isinstance(value, dict) else value if isinstance(value, list) else ()
+    return isinstance(value, OtherNumber) or any(map(has_other_number, parts))
+
+
+def is_json(text, has_form=lambda value: True):
+    """Tells whether a text is JSON, of a value of some form."""
+    try:
+        return has_form(json_in(text))
+    except ValueError:
+        return False
+
+
+# The forms of parameters.
+TRUTH = {"true", "false"}.__contains__
+STYLE = {"main_only", "all_docs"}.__contains__
+
+
+def is_count(text):
+    """Tells whether a text is the number of a parameter."""
+    return bool(re.fullmatch(r"[0-9]{1,19}", text)) and int(text) < 2**63
+
+
+def is_key(text):
+    """Tells whether a text is JSON of a text, as the bounds of a list by id are."""
+    return is_json(text, lambda value: isinstance(value, str))
+
+
+def are_revisions(text):
+    """Tells whether a text names revisions."""
+    return text == "all" or is_json(text, lambda value: isinstance(value, list) and all(map(is_revision, value)))
+
+
+RANGE = {"descending": TRUTH, "inclusive_end": TRUTH, "limit": is_count, "skip": is_count}
+# For each page the methods that it has, with the parameters that each takes, and their forms.
 PAGES = {
-    "_all_dbs": {"GET": set()},
-    "database": {"GET": set(), "PUT": set(), "DELETE": set()},
-    "_security": {"GET": set(), "PUT": set()},
-    "_all_docs": {"GET": RANGE},
-    "_changes": {"GET": {"limit", "since", "style"}},
-    "_bulk_docs": {"POST": set()},
-    "_revs_diff": {"POST": set()},
-    "_find": {"POST": set()},
-    "_index": {"POST": set()},
-    "_view": {"GET": RANGE},
-    "_local": {"GET": set(), "PUT": set()},
-    "document": {"GET": {"open_revs", "rev", "revs"}, "PUT": {"rev"}, "DELETE": {"rev"}},
+    "_all_dbs": {"GET": {}},
+    "database": {"GET": {}, "PUT": {}, "DELETE": {}},
+    "_security": {"GET": {}, "PUT": {}},
+    "_all_docs": {"GET": {**RANGE, "startkey": is_key, "endkey": is_key}},
+    "_changes": {"GET": {"limit": is_count, "since": is_count, "style": STYLE}},
+    "_bulk_docs": {"POST": {}},
+    "_revs_diff": {"POST": {}},
+    "_find": {"POST": {}},
+    "_index": {"POST": {}},
+    "_view": {"GET": {**RANGE, "startkey": is_json, "endkey": is_json}},
+    "_local": {"GET": {}, "PUT": {}},
+    "document": {"GET": {"open_revs": are_revisions, "rev": is_revision, "revs": TRUTH}, "PUT": {"rev": is_revision}, "DELETE": {"rev": is_revision}},
 }
 
 
@@ -607,26 +672,29 @@ def page_of(parts):
     return parts[1] if parts[1] in PAGES else "document"
 
 
-def refuse_early(method, parts, query):
-    """Refuses another method, another name of a database, and another parameter than a page has."""
-    page = PAGES[page_of(parts)]
-    if method not in page:
+def refuse_early(method, parts):
+    """Refuses another method than a page has, and another name of a database."""
+    if method not in PAGES[page_of(parts)]:
         raise Refusal(405, "method_not_allowed", "method")
     if parts[0] != "_all_dbs" and not re.fullmatch(r"[a-z][a-z0-9_$()+-]{0,63}", parts[0]):
         raise Refusal(400, "illegal_database_name", "name")
-    if not set(parse_qs(query, keep_blank_values=True)) <= page[method]:
+
+
+def query_of(method, parts, text):
+    """Returns the parameters of a request; refuses another one than its page has, one that occurs twice, and a value of another form."""
+    taken, found = PAGES[page_of(parts)][method], parse_qs(text, keep_blank_values=True)
+    is_lawful = all(name in taken and len(values) == 1 and taken[name](values[0]) for name, values in found.items())
+    if not is_lawful or {"rev", "open_revs"} <= set(found):
         raise Refusal(400, "bad_request", "query")
-
-
-BAD_JSON = (400, "bad_request", "JSON")
+    return {name: values[0] for name, values in found.items()}
 
 
 def value_of(body):
-    """Returns the value of a body, where there is one."""
+    """Returns the value of a body."""
     try:
-        return json.loads(body) if body else None
-    except json.JSONDecodeError:
-        raise Refusal(*BAD_JSON) from None
+        return json_in(body or b"")
+    except ValueError:
+        raise Refusal(400, "bad_request", "JSON") from None
 
 
 class Node:
@@ -639,27 +707,26 @@ class Node:
         """Answers a request, and returns the status and the text of the reply."""
         path, _, query = target.partition("?")
         parts = [unquote(part) for part in path.split("/")[1:]]
-        asked = {name: values[0] for name, values in parse_qs(query).items()}
         try:
-            refuse_early(method, parts, query)
-            status, value = self.work(user, method, parts, asked, value_of(body), bool(body))
+            refuse_early(method, parts)
+            status, value = self.work(user, method, parts, query, body)
         except Refusal as refusal:
             status, value = refusal.status, refusal.value
         return status, text_of(value)
 
-    def work(self, user, method, parts, query, value, has_body):
+    def work(self, user, method, parts, text, body):
         name = parts[0]
         if name == "_all_dbs":
-            return self.list_databases(user)
+            return self.list_databases(user, parts, text)
         if len(parts) == 1 and method != "GET":
-            return self.work_on_database(user, method, name)
+            return self.work_on_database(user, method, parts, text)
         database = self.databases.get(name)
         if database is None:
             raise Refusal(404, "not_found", "Database does not exist.")
         if not database.is_member(user):
             raise denial(user, "You are not allowed to access this db.", "db_member")
-        if method in ("POST", "PUT") and not has_body:
-            raise Refusal(*BAD_JSON)
+        query = query_of(method, parts, text)
+        value = value_of(body) if method in ("POST", "PUT") else None
         if len(parts) == 1:
             return database.information(name)
         if parts[1] == "_security":
@@ -685,22 +752,26 @@ class Node:
             return database.read(identifier, query)
         return database.write(user, identifier, query, value) if method == "PUT" else database.delete(user, identifier, query)
 
-    def list_databases(self, user):
+    def list_databases(self, user, parts, text):
         if user != ADMIN:
             raise denial(user, "You are not a server admin.", "server_admin")
+        query_of("GET", parts, text)
         return 200, sorted(self.databases)
 
-    def work_on_database(self, user, method, name):
+    def work_on_database(self, user, method, parts, text):
         """Creates or removes a database."""
+        name = parts[0]
         if user != ADMIN:
             raise denial(user, "You are not a server admin.", "server_admin")
         if method == "PUT":
             if name in self.databases:
                 raise Refusal(412, "file_exists", "The database could not be created, the file already exists.")
+            query_of(method, parts, text)
             self.databases[name] = Database()
             return 201, {"ok": True}
         if name not in self.databases:
             raise Refusal(404, "not_found", "Database does not exist.")
+        query_of(method, parts, text)
         del self.databases[name]
         return 200, {"ok": True}
 
