@@ -252,16 +252,22 @@ turns_report c p b rs (answered status body ∷ ts) h =
     let one = lists_at p (answered status body) in
     let more = rs ++ (status, body) ∷ [] in
     let same : q.configuration ≡ p.configuration = answer_told p.phase p status body in
-    let known : Known c q (b || one) more = (same ∙ h.0, answer_stands p.phase p rs status body refl h.1,
-        known_on p.configuration c (b || one) more q.start_seq h.0
-        (answer_reports p.phase p b rs status body h.1 (known_on c p.configuration b rs p.start_seq (sym h.0) h.2))) in
+    let known : Known c q (b || one) more = (
+      same ∙ h.0,
+      answer_stands p.phase p rs status body refl h.1,
+      known_on p.configuration c (b || one) more q.start_seq h.0
+          (answer_reports p.phase p b rs status body h.1 (known_on c p.configuration b rs p.start_seq (sym h.0) h.2)),
+    ) in
     let on : Reported c.is_from_start ((b || one) || has_listed q ts) (more ++ replies_in ts) (after_turns q ts).start_seq = turns_report c q (b || one) more ts known in
     subst (λ (xs : Taken). Reported c.is_from_start (b || (one || has_listed q ts)) xs (after_turns q ts).start_seq) (append_assoc rs ((status, body) ∷ []) (replies_in ts))
     (subst (λ (a : Bool). Reported c.is_from_start a (more ++ replies_in ts) (after_turns q ts).start_seq) (or_assoc b one (has_listed q ts)) on)
 turns_report c p b rs (lost ∷ ts) h =
     let q = lost_of p in
-    let known : Known c q (b || false) rs = (loss_told p ∙ h.0, lost_stands p rs h.1,
-        known_on p.configuration c (b || false) rs q.start_seq h.0 (lost_reports p b rs (known_on c p.configuration b rs p.start_seq (sym h.0) h.2))) in
+    let known : Known c q (b || false) rs = (
+      loss_told p ∙ h.0,
+      lost_stands p rs h.1,
+      known_on p.configuration c (b || false) rs q.start_seq h.0 (lost_reports p b rs (known_on c p.configuration b rs p.start_seq (sym h.0) h.2)),
+    ) in
     subst (λ (a : Bool). Reported c.is_from_start a (rs ++ replies_in ts) (after_turns q ts).start_seq) (or_assoc b false (has_listed q ts))
     (turns_report c q (b || false) rs ts known)
 

@@ -83,8 +83,7 @@ serves_none g hub = (None, None, record { deeds = []; standings = empty; logs = 
 pub within_none : {S A E : Type 0} (P : E → Type 0) (g : Ghosts S) (conns at_once : ℕ) (r : Result A E) (hub : HubState S) → IsErrAnd r P → ServesManyWithin g (limits_of conns at_once) r hub hub
 within_none P g conns at_once (Ok a) hub refused = absurd refused
 within_none P g conns at_once (Err e) hub refused =
-    let nobody = len-empty nat_cmp Standing in
-    (
+    let nobody = len-empty nat_cmp Standing in (
       None,
       None,
       record { deeds = []; standings = empty; logs = tt; runs = (omega (arith, nobody), refl); accepts = omega arith; opens = omega arith; ends = tt },

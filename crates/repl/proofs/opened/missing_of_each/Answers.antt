@@ -16,7 +16,7 @@ loop-document-preserved c =
     let id = (revisions_of d).id in
     let before = map revisions_of c.loop-document.missing.items in
     let texts : map string_bytes c.deref.result.now ≡ missing_of id v =
-        ap (map string_bytes) c.deref.ensures.value ∙ c.in_ok-revisions.ensures ∙ ap (λ (name : List ℕ). missing_of name v) c.as_str.ensures.value in
+    ap (map string_bytes) c.deref.ensures.value ∙ c.in_ok-revisions.ensures ∙ ap (λ (name : List ℕ). missing_of name v) c.as_str.ensures.value in
     let first = drop_more ds i d c.loop-document-test.true ∙ (λ k. sym c.document-item.is k ∷ drop (i + 1) ds) in
     made_of_one (λ ls. missing_of_each v (map revisions_of ls)) d (drop i ds) (drop (i + 1) ds) (of_document id (groups_from [] (missing_of id v)) [])
     before (map revisions_of c.push_groups.new.missing.items)
