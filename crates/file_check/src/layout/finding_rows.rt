@@ -10,7 +10,9 @@ ghost use Rattle.file_check.specs.Tables.{IsShaped, is_at_sequence};
 ghost use Rattle.file_check.specs.inner.Queries.{is_shown_hash, is_stored, length_at, length_shown};
 
 use crate::finding::CheckFault;
-use crate::layout::statements::{hash_rows, length_rows, one_document_rows, sequence_rows, stored_rows};
+use crate::layout::statements::{
+    hash_rows, length_rows, one_document_rows, sequence_rows, stored_rows,
+};
 use sqlite::{Alter, Connection, Row};
 use sqlite_value::value::ValueRef;
 use std::str;

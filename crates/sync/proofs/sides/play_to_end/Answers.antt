@@ -26,9 +26,9 @@ pub loop-turn-preserved : goal.loop-turn-preserved
 loop-turn-preserved g c = record {
   goes = λ source target.
       goes_further (HasTurn g.F.Side.answers g.T.Side.answers) c.loop-turn._turn (record { source = c.args.source.now; target = c.args.target.now; pass = pass_of c.args.pass.now })
-    (record { source = c.loop-turn.source; target = c.loop-turn.target; pass = pass_of c.loop-turn.pass })
-    (record { source = c.take_turn.new.source; target = c.take_turn.new.target; pass = pass_of c.take_turn.new.pass })
-    c.in_ok-end.field-0 (c.loop-turn.invariant.goes (c.in_ok-end.ensures.source source) (c.in_ok-end.ensures.target target)) (c.in_ok-end.ensures.turn source target) c.in_default.is;
+      (record { source = c.loop-turn.source; target = c.loop-turn.target; pass = pass_of c.loop-turn.pass })
+      (record { source = c.take_turn.new.source; target = c.take_turn.new.target; pass = pass_of c.take_turn.new.pass })
+      c.in_ok-end.field-0 (c.loop-turn.invariant.goes (c.in_ok-end.ensures.source source) (c.in_ok-end.ensures.target target)) (c.in_ok-end.ensures.turn source target) c.in_default.is;
   source = λ source. c.loop-turn.invariant.source (c.in_ok-end.ensures.source source);
   target = λ target. c.loop-turn.invariant.target (c.in_ok-end.ensures.target target);
 }
