@@ -9,7 +9,7 @@ import time
 
 from lib.checks import compare
 from lib.server import ADMIN, connected, finds_sound, first_revision, reply, reply_of, reply_with, request, text_of
-from lib.syncing import DONE, asked, copied, empty, fill, held, outcome, peer, report, request_of, serving, stopped, synced, words_of
+from lib.syncing import DONE, asked, copied, empty, fill, held, on_terminal, outcome, peer, report, request_of, serving, stopped, synced, words_of
 
 OWNED = {"newDoc.owner": {"$sameAs": "userCtx.name"}}
 # The same, but for those who copy.
@@ -40,10 +40,12 @@ def check_nights(options, room):
         status, refused, said = outcome(synced(options, "N2", server.port, target, more=["--log"]))
         line = "couchd: 3 refused, the first ann by _design/owner: run it with --from-start once the target admits them"
         compare("night 2", (3, ["ann", "bob", "eve"], [line]), (status, [one["id"] for one in refused], said))
-        status, line, said = synced(options, "N3", server.port, target, more=["--log"])
-        compare("night 3", (0, 0, []), (status, json.loads(line)["sent"], said))
-        status, line, said = synced(options, "N4", server.port, target, more=["--from-start"])
-        compare("from the start, with the rule", (3, 0, []), (status, json.loads(line)["start_seq"], said))
+        status, text, said = synced(options, "N3", server.port, target, more=["--log"])
+        compare("night 3", (0, 0, []), (status, json.loads(text)["sent"], said))
+        status, text, said = synced(options, "N4", server.port, target, more=["--from-start"])
+        compare("from the start, with the rule", (3, 0, []), (status, json.loads(text)["start_seq"], said))
+        status, _, shown = on_terminal(options, "N4", server.port, target, more=["--from-start"])
+        compare("what is shown of it on a terminal", (3, True), (status, line in shown))
         asked(made, "PUT", f"/db/_design/owner?rev={rule['rev']}", {"validate_doc_update": MENDED})
         compare("the mended rule", DONE, outcome(synced(options, "N5", server.port, target)))
         status, line, said = synced(options, "N6", server.port, target, more=["--from-start"])

@@ -108,6 +108,21 @@ def synced(options, *words, seconds=600, **others):
     return ran.returncode, ran.stdout.decode(), said
 
 
+def on_terminal(options, *words, **others):
+    """Runs a pass whose standard error is a terminal. Returns its status, its line, and the lines that were shown."""
+    terminal, its = os.openpty()
+    running = subprocess.Popen(words_of(options, *words, **others), stdin=subprocess.DEVNULL, stdout=subprocess.PIPE, stderr=its)
+    os.close(its)
+    text = b""
+    # A terminal that nobody holds open any more can't be read.
+    with contextlib.suppress(OSError):
+        while part := os.read(terminal, 65536):
+            text += part
+    os.close(terminal)
+    line = running.stdout.read().decode()
+    return running.wait(120), line, [one for one in text.decode().split("\r\n") if "unproved" not in one]
+
+
 def outcome(ran):
     """Returns the status of a pass, what was refused, and what it said; of one that stopped, its line."""
     status, line, said = ran
