@@ -1,5 +1,5 @@
 -- One connection more, and none of many.
-use Rattle.std.proofs.Common.{◌≡◌, ◌≢◌, ◌∙◌, ◌<◌, ◌≤◌, ℕ, ◌+◌, Bool, true, false, List, [], ◌∷◌, ◌++◌, None, refl, sym, ap, subst, arith, append_assoc, append-nil, length, length-append, true≢false}
+use Rattle.std.proofs.Common.{◌≡◌, ◌≢◌, ◌∙◌, ◌<◌, ℕ, ◌+◌, true, false, List, [], ◌∷◌, ◌++◌, None, refl, sym, ap, subst, arith, append_assoc, append-nil, length, length-append, true≢false}
 use Rattle.std.specs.FinMap.{empty, len-empty}
 use Rattle.std.specs.Ordering.{nat_cmp}
 use Rattle.std.specs.Prelude.{OnErr, OnOk, Result, Ok, Err}
@@ -80,11 +80,10 @@ pub serves_none : {S : Type 0} (g : Ghosts S) (hub : HubState S) → ServesMany 
 serves_none g hub = (None, None, record { deeds = []; standings = empty; logs = tt; runs = refl })
 
 -- and within any limits, where that is a refusal
-pub within_none : {S A E : Type 0} {P : E → Type 0} (g : Ghosts S) (conns at_once : ℕ) (r : Result A E) (hub : HubState S) → IsErrAnd r P → ServesManyWithin g (limits_of conns at_once) r hub hub
-within_none g conns at_once (Ok a) hub refused = absurd refused
-within_none g conns at_once (Err e) hub refused =
-    let nobody = len-empty nat_cmp Standing in
-    (
+pub within_none : {S A E : Type 0} (P : E → Type 0) (g : Ghosts S) (conns at_once : ℕ) (r : Result A E) (hub : HubState S) → IsErrAnd r P → ServesManyWithin g (limits_of conns at_once) r hub hub
+within_none P g conns at_once (Ok a) hub refused = absurd refused
+within_none P g conns at_once (Err e) hub refused =
+    let nobody = len-empty nat_cmp Standing in (
       None,
       None,
       record { deeds = []; standings = empty; logs = tt; runs = (omega (arith, nobody), refl); accepts = omega arith; opens = omega arith; ends = tt },

@@ -6,14 +6,14 @@ pub returns-in_err-sockets-clause-served : goal.returns-in_err-sockets-clause-se
 returns-in_err-sockets-clause-served g c = serves_none g.S.Store c.args.hub.now
 
 pub returns-in_err-sockets-clause-within : goal.returns-in_err-sockets-clause-within
-returns-in_err-sockets-clause-within g c = within_none g.S.Store c.args.conns c.args.at_once c.from_residual.result c.args.hub.now c.from_residual.ensures.1
+returns-in_err-sockets-clause-within g c = within_none _ g.S.Store c.args.conns c.args.at_once c.from_residual.result c.args.hub.now c.from_residual.ensures.1
 
 pub returns-in_err-print_address-clause-served : goal.returns-in_err-print_address-clause-served
 returns-in_err-print_address-clause-served g c = serves_none g.S.Store c.args.hub.now
 
 pub returns-in_err-print_address-clause-within : goal.returns-in_err-print_address-clause-within
 returns-in_err-print_address-clause-within g c =
-    within_none g.S.Store c.args.conns c.args.at_once c.from_residual-in_err-print_address.result c.args.hub.now c.from_residual-in_err-print_address.ensures.1
+    within_none _ g.S.Store c.args.conns c.args.at_once c.from_residual-in_err-print_address.result c.args.hub.now c.from_residual-in_err-print_address.ensures.1
 
 pub returns-clause-served : goal.returns-clause-served
 returns-clause-served g c = (None, None, c.serve_sockets.ensures.served)
