@@ -26,7 +26,7 @@ use Rattle.tree.proofs.RevisionText.{parts, read_gives}
 use Rattle.tree.proofs.Shown.{entry_of_known, found_stands, inside}
 use Rattle.store.specs.Database.{Database, DocumentWrite, IsKnownAt, history_at, with_one}
 use Rattle.write.specs.Admission.{parent_for_edit, edit_of, implicit_parent, named_revision, revision_after, with_named_revision}
-use Rattle.write.specs.Document.{Ancestry, ancestry_alone, ancestry_by, body_for, body_in, item_count, fits_id, is_special, mark_in, onto, path_of_hashes, given_revision, ancestry_given, sent_in, sent_with, without_special, words_in}
+use Rattle.write.specs.Document.{Ancestry, ancestry_alone, ancestry_by, body_for, body_in, item_count, fits_id, mark_in, onto, path_of_hashes, given_revision, ancestry_given, sent_in, sent_with, without_special, words_in}
 use Rattle.write.specs.Terms.{Terms}
 use Rattle.write.proofs.Outcomes.{IsEdit, IsReplicated}
 use Rattle.replication.specs.Sound.{AreWritable}

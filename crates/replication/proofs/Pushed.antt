@@ -1,5 +1,5 @@
 -- A push appends what its documents say.
-use Rattle.std.proofs.Common.{◌≡◌, ◌≢◌, ◌⊎◌, inl, inr, ℕ, List, [], ◌∷◌, false, Option, Some, None, Result, Ok, Err, codes, refl, sym, ap, ◌∙◌, subst}
+use Rattle.std.proofs.Common.{◌≡◌, ◌≢◌, ◌⊎◌, ◌&&◌, inl, inr, ℕ, List, [], ◌∷◌, Bool, true, false, not, cond, Option, Some, None, option_and_then, Result, Ok, Err, codes, refl, sym, ap, ◌∙◌, subst}
 use Rattle.std.specs.List.{AllByRecursion}
 use Rattle.std.specs.FinMap.{get}
 use Rattle.auth.specs.Callers as auth
@@ -14,7 +14,8 @@ use Rattle.store.specs.Contents.{AreAcceptable, Contents, IsAcceptable}
 use Rattle.store.specs.Database.{Database, DocumentWrite, history_at, with_all}
 use Rattle.write.specs.Bulk.{DocumentOutcome, Histories, after, document_outcome, outcome_in, outcomes, put_before, writes_in}
 use Rattle.write.specs.Admission.{given}
-use Rattle.write.specs.Document.{id_in}
+use Rattle.write.specs.Document.{id_in, id_in_bulk, member_text}
+use Rattle.tree.specs.DocumentId.{is_document_id, is_local_id}
 use Rattle.write.specs.Terms.{Terms, terms_in}
 use Rattle.write.specs.declared.fault.WriteFault.TheVariants.{BadDocument}
 use Rattle.write.proofs.Acceptances.{after_is, db_after, replicated_acceptable}
@@ -50,10 +51,23 @@ one_said : (terms : Terms) (id : List ℕ) (h : HistoryContent) (v : Value) (w :
 one_said terms id h v w named k =
     subst (IsSaidBy v) (sym k.taken.1) (record { rev = k.sent.rev; ancestry = k.ancestry; named = named; says = k.says; leads = k.leads; path = refl })
 
+-- the id of a document of a bulk is no local one
+in_bulk : (text id : List ℕ) (document local : Bool) → local ≡ is_local_id text → cond (document && not local) (Some text) None ≡ Some id → is_local_id id ≡ false
+in_bulk text id true true is e = absurd cc
+in_bulk text id true false is e = let same : text ≡ id = cc in ap is_local_id (sym same) ∙ sym is
+in_bulk text id false local is e = absurd cc
+
+bulk_apart : (v : Value) (id : List ℕ) → id_in v ≡ Some id → is_local_id id ≡ false
+bulk_apart v id e = by (member_text (codes "_id") v) e
+  where
+    by : (o : Option (List ℕ)) → option_and_then (λ t. id_in_bulk t) o ≡ Some id → is_local_id id ≡ false
+    by None k = absurd cc
+    by (Some text) k = in_bulk text id (is_document_id text) (is_local_id text) refl k
+
 said_by_id : (terms : Terms) (db : Database) (v : Value) (id : Option (List ℕ)) (w : DocumentWrite) → id_in v ≡ id → given BadDocument id (λ k. document_outcome terms false k (history_at db k) v) ≡ Ok (Some w) → IsSaidBy v w × IsAcceptable db w
 said_by_id terms db v None w named e = absurd cc
 said_by_id terms db v (Some id) w named e =
-    (one_said terms id (history_at db id) v w named (replicated_accepted terms id (history_at db id) v (Some w) e), replicated_acceptable terms db id v w e)
+    (one_said terms id (history_at db id) v w named (replicated_accepted terms id (history_at db id) v (Some w) e), replicated_acceptable terms db id v w (bulk_apart v id named) e)
 
 more_said : (v : Value) (vs : List Value) (ws : List DocumentWrite) → AllByRecursion (IsSaidByOne vs) ws → AllByRecursion (IsSaidByOne (v ∷ vs)) ws
 more_said v vs [] h = tt

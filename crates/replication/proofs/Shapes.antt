@@ -171,18 +171,20 @@ missing_texts id v h = missing_by (member_of v id) (by (member_of v id) refl)
     by None is = tt
     by (Some w) is = member_part v w id h is
 
-joined_texts : (as bs : List (List ℕ)) → AllByRecursion IsUtf8 as → AllByRecursion IsUtf8 bs → AllByRecursion IsUtf8 (as ++ bs)
-joined_texts [] bs h k = k
-joined_texts (a ∷ as) bs h k = (h.0, joined_texts as bs h.1 k)
+joined_texts : (ts us : List (List ℕ)) → AllByRecursion IsUtf8 ts → AllByRecursion IsUtf8 us → AllByRecursion IsUtf8 (ts ++ us)
+joined_texts [] us h k = k
+joined_texts (t ∷ ts) us h k = (h.0, joined_texts ts us h.1 k)
 
 group_texts : (group rs : List (List ℕ)) → AllByRecursion IsUtf8 group → AllByRecursion IsUtf8 rs → AllByRecursion (λ g. AllByRecursion IsUtf8 g) (groups_from group rs)
 group_texts [] [] h k = tt
 group_texts (g ∷ gs) [] h k = (h, tt)
-group_texts group (r ∷ rs) h k = by (length group == most_revisions)
+group_texts group (r ∷ rs) h k =
+    by (length group == most_revisions) (group_texts (r ∷ []) rs (k.0, tt) k.1) (group_texts (group ++ r ∷ []) rs (joined_texts group (r ∷ []) h (k.0, tt)) k.1)
   where
-    by : (b : Bool) → AllByRecursion (λ g. AllByRecursion IsUtf8 g) (cond b (group ∷ groups_from (r ∷ []) rs) (groups_from (group ++ r ∷ []) rs))
-    by true = (h, group_texts (r ∷ []) rs (k.0, tt) k.1)
-    by false = group_texts (group ++ r ∷ []) rs (joined_texts group (r ∷ []) h (k.0, tt)) k.1
+    by : (b : Bool) → AllByRecursion (λ g. AllByRecursion IsUtf8 g) (groups_from (r ∷ []) rs) → AllByRecursion (λ g. AllByRecursion IsUtf8 g) (groups_from (group ++ r ∷ []) rs)
+        → AllByRecursion (λ g. AllByRecursion IsUtf8 g) (cond b (group ∷ groups_from (r ∷ []) rs) (groups_from (group ++ r ∷ []) rs))
+    by true anew on = (h, anew)
+    by false anew on = on
 
 document_texts : (id : List ℕ) (gs : List (List (List ℕ))) (others : List Revisions) → IsUtf8 id → AllByRecursion (λ g. AllByRecursion IsUtf8 g) gs → AllByRecursion AreTexts others
     → AllByRecursion AreTexts (of_document id gs others)
