@@ -126,7 +126,11 @@ struct Losing {
 }
 
 impl Side for Losing {
-    fn answer(&mut self, _alloc: Global, request: &Request) -> Got<Answer> {
+    fn foresees(&self) -> bool {
+        false
+    }
+
+    fn answer(&mut self, _alloc: Global, request: &Request, _next: &[Request]) -> Got<Answer> {
         let response = self.node.handle(request);
         if self.left == 0 {
             if !self.is_gone {

@@ -17,6 +17,7 @@ use Rattle.repl.specs.declared.phase.Phase.{Phase}
 use Rattle.repl.specs.declared.phase.Phase.TheVariants.{ReadSource, ReadTarget, ListChanges, Compare, Open, Push, WriteSource, WriteTarget, RereadSource, RereadTarget, Done, Stopped}
 use Rattle.repl.specs.declared.why.Why.{Why}
 use Rattle.repl.proofs.LossLemmas.{lost_by}
+use Rattle.repl.proofs.StartLemmas.{answered_configured, lost_configured}
 use Rattle.repl.proofs.TakenLemmas.{was_said}
 use Rattle.passes.proofs.Missing.{or_left, or_parts, or_right}
 use Rattle.passes.specs.Owed.{Covers, DoneOwesNothing, Event, Follows, Goes, IsTruth, Names, RoundsCover, Scene, Went, has_covered, listed_after, others, turn}
@@ -389,27 +390,9 @@ answered_holds (Stopped why) s s' t t' listed p status body e sized ls lt truth 
 
 -- ---- the configuration stays
 
-same_configuration : {A : Type 0} (take : Pass → A → Pass) (p : Pass) (r : Result A Why) → ((a : A) → (take p a).configuration ≡ p.configuration) → (pass_after take p r).configuration ≡ p.configuration
-same_configuration take p (Ok a) same = same a
-same_configuration take p (Err why) same = refl
-
-answered_configured : (f : Phase) (p : Pass) (status : ℕ) (body : List ℕ) → (answered_in f p status body).configuration ≡ p.configuration
-answered_configured ReadSource p status body = same_configuration with_source p (checkpoint_read status body) (λ a. refl)
-answered_configured ReadTarget p status body = same_configuration with_target p (checkpoint_read status body) (λ a. refl)
-answered_configured ListChanges p status body = same_configuration with_changes p (list_taken p status body) (λ a. refl)
-answered_configured Compare p status body = same_configuration with_lacking p (differences_read p.leaves status body) (λ a. refl)
-answered_configured Open p status body = same_configuration with_opened p (opened_taken p status body) (λ a. refl)
-answered_configured Push p status body = same_configuration with_failures p (failures_taken p status body) (λ a. refl)
-answered_configured WriteSource p status body = same_configuration with_source_written p (checkpoint_written status body) (λ a. refl)
-answered_configured WriteTarget p status body = same_configuration with_target_written p (checkpoint_written status body) (λ a. refl)
-answered_configured RereadSource p status body = same_configuration with_source_reread p (checkpoint_read status body) (λ a. refl)
-answered_configured RereadTarget p status body = same_configuration with_target_reread p (checkpoint_read status body) (λ a. refl)
-answered_configured Done p status body = refl
-answered_configured (Stopped why) p status body = refl
-
 pub turn_configured : (p : Pass) (t : Turn) → (after_turn p t).configuration ≡ p.configuration
 turn_configured p (answered status body) = answered_configured p.phase p status body
-turn_configured p lost = lost_by (λ (q : Pass). q.configuration ≡ p.configuration) p.phase p refl refl refl
+turn_configured p lost = lost_configured p
 
 -- ---- events
 

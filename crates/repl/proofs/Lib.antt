@@ -11,3 +11,4 @@ pub mod ReportLemmas
 pub mod StartLemmas
 pub mod StopLemmas
 pub mod TakenLemmas
+pub mod NextLemmas

@@ -208,22 +208,24 @@ same_told : {A : Type 0} (take : Pass → A → Pass) (p : Pass) (r : Result A W
 same_told take p (Ok a) same = same a
 same_told take p (Err why) same = refl
 
-answer_told : (f : Phase) (p : Pass) (status : ℕ) (body : List ℕ) → (answered_in f p status body).configuration ≡ p.configuration
-answer_told ReadSource p status body = same_told with_source p (checkpoint_read status body) (λ a. refl)
-answer_told ReadTarget p status body = same_told with_target p (checkpoint_read status body) (λ a. refl)
-answer_told ListChanges p status body = same_told with_changes p (list_taken p status body) (λ a. refl)
-answer_told Compare p status body = same_told with_lacking p (differences_read p.leaves status body) (λ a. refl)
-answer_told Open p status body = same_told with_opened p (opened_taken p status body) (λ a. refl)
-answer_told Push p status body = same_told with_failures p (failures_taken p status body) (λ a. refl)
-answer_told WriteSource p status body = same_told with_source_written p (checkpoint_written status body) (λ a. refl)
-answer_told WriteTarget p status body = same_told with_target_written p (checkpoint_written status body) (λ a. refl)
-answer_told RereadSource p status body = same_told with_source_reread p (checkpoint_read status body) (λ a. refl)
-answer_told RereadTarget p status body = same_told with_target_reread p (checkpoint_read status body) (λ a. refl)
-answer_told Done p status body = refl
-answer_told (Stopped why) p status body = refl
+-- no answer changes the configuration
+pub answered_configured : (f : Phase) (p : Pass) (status : ℕ) (body : List ℕ) → (answered_in f p status body).configuration ≡ p.configuration
+answered_configured ReadSource p status body = same_told with_source p (checkpoint_read status body) (λ a. refl)
+answered_configured ReadTarget p status body = same_told with_target p (checkpoint_read status body) (λ a. refl)
+answered_configured ListChanges p status body = same_told with_changes p (list_taken p status body) (λ a. refl)
+answered_configured Compare p status body = same_told with_lacking p (differences_read p.leaves status body) (λ a. refl)
+answered_configured Open p status body = same_told with_opened p (opened_taken p status body) (λ a. refl)
+answered_configured Push p status body = same_told with_failures p (failures_taken p status body) (λ a. refl)
+answered_configured WriteSource p status body = same_told with_source_written p (checkpoint_written status body) (λ a. refl)
+answered_configured WriteTarget p status body = same_told with_target_written p (checkpoint_written status body) (λ a. refl)
+answered_configured RereadSource p status body = same_told with_source_reread p (checkpoint_read status body) (λ a. refl)
+answered_configured RereadTarget p status body = same_told with_target_reread p (checkpoint_read status body) (λ a. refl)
+answered_configured Done p status body = refl
+answered_configured (Stopped why) p status body = refl
 
-loss_told : (p : Pass) → (lost_of p).configuration ≡ p.configuration
-loss_told p = lost_by (λ (q : Pass). q.configuration ≡ p.configuration) p.phase p refl refl refl
+-- nor does a loss
+pub lost_configured : (p : Pass) → (lost_of p).configuration ≡ p.configuration
+lost_configured p = lost_by (λ (q : Pass). q.configuration ≡ p.configuration) p.phase p refl refl refl
 
 -- ---- turn by turn
 
@@ -251,7 +253,7 @@ turns_report c p b rs (answered status body ∷ ts) h =
     let q = after_turn p (answered status body) in
     let one = lists_at p (answered status body) in
     let more = rs ++ (status, body) ∷ [] in
-    let same : q.configuration ≡ p.configuration = answer_told p.phase p status body in
+    let same : q.configuration ≡ p.configuration = answered_configured p.phase p status body in
     let known : Known c q (b || one) more = (
       same ∙ h.0,
       answer_stands p.phase p rs status body refl h.1,
@@ -264,7 +266,7 @@ turns_report c p b rs (answered status body ∷ ts) h =
 turns_report c p b rs (lost ∷ ts) h =
     let q = lost_of p in
     let known : Known c q (b || false) rs = (
-      loss_told p ∙ h.0,
+      lost_configured p ∙ h.0,
       lost_stands p rs h.1,
       known_on p.configuration c (b || false) rs q.start_seq h.0 (lost_reports p b rs (known_on c p.configuration b rs p.start_seq (sym h.0) h.2)),
     ) in

@@ -1,6 +1,6 @@
 -- A pass of replication: what it asks, and what each reply makes of it.
 -- CouchDB manual, replication/protocol. How losses are counted, and that a checkpoint whose write was lost is read again, are this project's own.
-use Rattle.std.specs.Prelude.{ℕ, ◌+◌, ◌==◌, ◌&&◌, ◌||◌, Bool, false, not, min, nat_le, nat_lt, List, [], ◌∷◌, ◌++◌, length, drop, pos, Option, Some, None, Result, Ok, Err, bytes_eq, if◌then◌else◌, codes, true}
+use Rattle.std.specs.Prelude.{ℕ, ◌+◌, ◌==◌, ◌&&◌, ◌||◌, Bool, false, not, min, nat_le, nat_lt, List, [], ◌∷◌, ◌++◌, length, drop, map, pos, Option, Some, None, Result, Ok, Err, bytes_eq, if◌then◌else◌, codes, true}
 use Rattle.couch_json.specs.Value.{Value, whole, array, object, no_members, put}
 use Rattle.couch_json.specs.View.{items_of}
 use Rattle.couch_http.specs.Message.{Message}
@@ -160,6 +160,10 @@ asked_by p (stopped why) = stopped_by why (summary_of p)
 -- what a pass asks
 abbrev pub asked_of : Pass → Asked
 asked_of p = asked_by p (step_of p)
+
+-- what a pass asks behind what it asks now, where each reply has the documents: it opens the further pending ones
+abbrev pub asked_next : Pass → List Message
+asked_next p = map (λ r. request_of p.configuration Source (open_revisions r)) (drop 1 p.pending)
 
 -- the id of the first of these documents, if it has one
 abbrev pub first_document : List Value → Option (List ℕ)

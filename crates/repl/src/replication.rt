@@ -1,6 +1,6 @@
 //! A pass of replication (CouchDB manual, replication/protocol).
 
-ghost use Rattle.std.specs.Prelude.{◌≡◌, if◌then◌else◌, IfOk, OnOk, OnErr, length, map, option_copied, option_map, string_bytes};
+ghost use Rattle.std.specs.Prelude.{◌≡◌, if◌then◌else◌, IfOk, OnOk, OnErr, length, map, option_copied, option_map, string_bytes, take};
 ghost use Rattle.couch_json.specs.Canonical.{canonical};
 ghost use Rattle.couch_json.specs.View.{view};
 ghost use Rattle.couch_http.specs.Message.{message_of};
@@ -11,7 +11,7 @@ ghost use Rattle.repl.specs.Configuration.{batch_size, configuration_of};
 ghost use Rattle.repl.specs.Ending.{progress_of};
 ghost use Rattle.repl.specs.Kept.{checkpoint_of, session_of};
 ghost use Rattle.repl.specs.Listed.{revisions_of};
-ghost use Rattle.repl.specs.Passes.{answered_in, answered_of, answers_list, asked_of, checkpoint_after, fills, first_document, first_of_pending, first_pass};
+ghost use Rattle.repl.specs.Passes.{answered_in, answered_of, answers_list, asked_next, asked_of, checkpoint_after, fills, first_document, first_of_pending, first_pass};
 ghost use Rattle.repl.specs.Passes.{has_ended, is_within_batch, is_written, lost_of, unreadable_of, phase_after_list, phase_after_round, with_failures};
 ghost use Rattle.repl.specs.Passes.{with_opened, phase_after_loss, phase_with, sent_to, summary_of, with_loss};
 ghost use Rattle.repl.specs.Taken.{changes_of, opened_of};
@@ -245,6 +245,26 @@ impl Replication {
                 open_revisions(self.alloc, &self.config, Side::Source, &nothing)
             }
         }
+    }
+
+    /// Makes the requests to the source that follow the one that the pass asks now, so many at most: those that
+    /// open the further pending documents, where each of them is answered with its documents.
+    pub fn ask_next(&self, most: usize) -> Got<Vec<Request>>
+        ensures { IfOk result (λ requests. map message_of requests.items ≡ take most (asked_next (pass_of self.now))) }
+    {
+        let mut requests = Vec::new(self.alloc);
+        for index in 0..most {
+            let Some(document) = self.pending.get(index + 1) else {
+                return Ok(requests);
+            };
+            requests.push(open_revisions(
+                self.alloc,
+                &self.config,
+                Side::Source,
+                document,
+            )?)?;
+        }
+        Ok(requests)
     }
 
     /// Makes the report so far.

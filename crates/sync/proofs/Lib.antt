@@ -8,3 +8,4 @@ pub mod Logs
 pub mod Reading
 pub mod Written
 pub mod Made
+pub mod Queued

@@ -12,6 +12,7 @@ pub mod Information
 pub mod Terminal
 pub mod Streams
 pub mod Exchange
+pub mod Sending
 pub mod Pieces
 pub mod Persistence
 pub mod Repeating

@@ -1,13 +1,13 @@
 -- A pass that goes on with smaller batches where one is too long for its target.
 -- RFC 9110, section 15.5.14, for the status; that a quarter of the batch follows is this project's own.
-use Rattle.std.specs.Prelude.{◌≡◌, ◌==◌, ◌&&◌, ◌/◌, ℕ, zero, suc, Bool, false, max, nat_lt, Option, Some, None, if◌then◌else◌}
+use Rattle.std.specs.Prelude.{◌≡◌, ◌⊎◌, ◌==◌, ◌&&◌, ◌/◌, ℕ, zero, suc, Bool, false, max, nat_lt, Option, Some, None, if◌then◌else◌}
 use Rattle.command_line.specs.Plan.{SyncAsked}
 use Rattle.repl.specs.Passes.{Asked, Pass, Summary, done, first_pass, joined, stopped_by, to_source, to_target}
 use Rattle.repl.specs.declared.why.Why.{Why}
 use Rattle.repl.specs.declared.why.Why.TheVariants.{Status, Reply, Lost}
 use Rattle.sync.specs.Configuring.{configuration_with}
-use Rattle.sync.specs.Sides.{Answering, Between, HasTurn}
-use Rattle.sync.specs.Turns.{ComesToEnd}
+use Rattle.sync.specs.Sides.{Answering, Between, Breaking, BreaksOff, HasTurn}
+use Rattle.sync.specs.Turns.{ComesToEnd, EndsEarly}
 use Rattle.sync.specs.declared.series.Manner.{Manner}
 
 -- the status that says that a request is too long
@@ -68,3 +68,17 @@ IsSeries source target asked zero manner earlier before end after = ⊥
 IsSeries {F} {T} source target asked (suc count) manner earlier before end after =
     (said : Asked) × (between : Between F T) × ComesToEnd (HasTurn source target) (begun asked manner before) said between
     × Follows (IsSeries source target asked count) manner (joined_end earlier said) (reported_before manner.batch (joined_end earlier said)) between end after
+
+-- What follows a pass that came to its end ended early, where something does.
+abbrev pub FollowsEarly : {F T : Type 0} → (Manner → Option Summary → Pair F T → Pair F T → Type 0) → Manner → Option Summary → Between F T → Pair F T → Type 0
+FollowsEarly next manner None between after = ⊥
+FollowsEarly next manner (Some earlier) between after = next (narrowed manner between.pass.since) (Some earlier) (pair_of between) after
+
+-- At most so many passes one after another, which ended early: the first of them did, or it came to its end and those that follow it did. Where no pass may follow,
+-- the sides are as they were.
+abbrev pub EndsSeriesEarly : {F T : Type 0} → Answering F → Breaking F → Answering T → Breaking T → SyncAsked → ℕ → Manner → Option Summary → Pair F T → Pair F T → Type 0
+EndsSeriesEarly source source_breaks target target_breaks asked zero manner earlier before after = after ≡ before
+EndsSeriesEarly {F} {T} source source_breaks target target_breaks asked (suc count) manner earlier before after =
+    ((between : Between F T) × EndsEarly (HasTurn source target) (BreaksOff source source_breaks target target_breaks) (begun asked manner before) between × (after ≡ pair_of between))
+    ⊎ ((said : Asked) × (between : Between F T) × ComesToEnd (HasTurn source target) (begun asked manner before) said between
+    × FollowsEarly (EndsSeriesEarly source source_breaks target target_breaks asked count) manner (reported_before manner.batch (joined_end earlier said)) between after)

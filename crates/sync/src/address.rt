@@ -4,20 +4,23 @@ ghost use Rattle.std.specs.Prelude.{◌≡◌};
 ghost use Rattle.couch_http.specs.Message.{message_of};
 ghost use Rattle.sync.specs.Repeating.{may_be_repeated, next_pause};
 
+use crate::ahead::Ahead;
 use crate::answer::Answer;
 use crate::density::is_dense;
 use crate::exchange_end::ExchangeEnd;
-use crate::exchanging::make_exchange;
+use crate::exchanging::{exchange_bytes, read_reply};
 use crate::logged::Logged;
+use crate::resumed::Resumed;
 use crate::side::Side;
 use crate::timed::Timed;
-use couch_http::{Request, Response};
+use couch_http::{Request, Response, request_bytes};
 use couch_json::{Got, NoMemory};
 use std::alloc::Global;
+use std::collections::VecDeque;
 use std::io::ErrorKind;
 use std::net::{Net, TcpStream};
-use std::thread;
 use std::time::{Clock, Duration, Instant};
+use std::{mem, thread};
 
 /// For how many seconds after an exchange its connection is used again. A server that serves one connection
 /// after another closes a silent one after 30 seconds.
@@ -31,16 +34,20 @@ const MOST_TRIES: u64 = 1_000_000;
 
 /// The server at an address, as `127.0.0.1:5984`.
 ///
-/// A connection is used again while the server keeps it open, up to 20 seconds after its last exchange. A
-/// request that is lost is made again after pauses of 0.1 s, 0.2 s and so on up to 10 s, but not one for the
-/// information on a database. So is one to which a proxy says that it has lost the reply. All that takes so many seconds at most. Then nothing is asked any more: each
-/// further request is lost at once.
+/// A connection is used again while the server keeps it open, up to 20 seconds after its last exchange. Requests
+/// whose turn comes next are sent over it ahead of that, until one of them has no reply.
+///
+/// A GET or POST that is lost is made again after pauses of 0.1 s, 0.2 s and so on up to 10 s, and so is one to
+/// which a proxy says that it has lost the reply, but not a request for the information on a database. All that
+/// takes so many seconds at most. Then nothing is asked any more: each further request is lost at once.
 #[derive(Drop)]
 pub struct Address<'a, R: Net<Stream = TcpStream> + Clock> {
     rt: &'a R,
     address: &'a str,
     /// A connection is used again at all.
     keeps: bool,
+    /// Requests are sent ahead of their turn.
+    sends_ahead: bool,
     /// How long a request may take.
     patience: Duration,
     /// A request took longer.
@@ -51,9 +58,19 @@ pub struct Address<'a, R: Net<Stream = TcpStream> + Clock> {
 /// A connection over which another exchange can be made.
 #[derive(Drop)]
 struct KeptConnection {
-    stream: TcpStream,
+    line: Line,
     /// When its last exchange ended.
     since: Instant,
+}
+
+/// A connection, with what was sent over it and read from it too early.
+#[derive(Drop)]
+struct Line {
+    stream: TcpStream,
+    /// The requests that were sent ahead of their turn.
+    ahead: Ahead,
+    /// What was read behind the last reply.
+    held: VecDeque<u8>,
 }
 
 impl<'a, R: Net<Stream = TcpStream> + Clock> Address<'a, R> {
@@ -63,6 +80,7 @@ impl<'a, R: Net<Stream = TcpStream> + Clock> Address<'a, R> {
             rt,
             address,
             keeps,
+            sends_ahead: keeps,
             patience: Duration::from_secs(patience as u64),
             is_given_up: false,
             kept: None,
@@ -70,7 +88,7 @@ impl<'a, R: Net<Stream = TcpStream> + Clock> Address<'a, R> {
     }
 
     /// Makes a request, again where it was lost, until its time is over.
-    fn ask_patiently(&mut self, alloc: Global, request: &Request) -> Got<Answer> {
+    fn ask_patiently(&mut self, alloc: Global, request: &Request, next: &[Request]) -> Got<Answer> {
         if self.is_given_up {
             return Ok(Answer::Lost);
         }
@@ -78,11 +96,11 @@ impl<'a, R: Net<Stream = TcpStream> + Clock> Address<'a, R> {
             return Ok(Answer::Lost);
         };
         if is_information(request) {
-            return self.ask(alloc, request, since);
+            return self.ask(alloc, request, &[], since);
         }
         let mut pause = FIRST_PAUSE;
         for _try in 0..MOST_TRIES {
-            match self.ask(alloc, request, since)? {
+            match self.ask(alloc, request, next, since)? {
                 Answer::Lost => {}
                 Answer::Reply(reply) if is_of_gateway(&reply) => {}
                 Answer::Reply(reply) if is_dense(request, &reply) => {
@@ -90,11 +108,11 @@ impl<'a, R: Net<Stream = TcpStream> + Clock> Address<'a, R> {
                 }
                 answer => return Ok(answer),
             }
-            if !self.waits(since, pause) {
-                self.is_given_up = true;
+            if !may_be_repeated(request) {
                 return Ok(Answer::Lost);
             }
-            if !may_be_repeated(request) {
+            if !self.waits(since, pause) {
+                self.is_given_up = true;
                 return Ok(Answer::Lost);
             }
             pause = next_pause(pause);
@@ -114,70 +132,136 @@ impl<'a, R: Net<Stream = TcpStream> + Clock> Address<'a, R> {
         }
     }
 
-    /// Takes the connection that was kept, if its last exchange was a short time ago and nothing has come
-    /// since, as its end.
-    fn take_fresh(&mut self) -> Option<TcpStream> {
-        let KeptConnection { stream, since } = self.kept.take()?;
+    /// Takes the connection that was kept, if its last exchange was a short time ago and it can be used for a
+    /// request.
+    fn take_fresh(&mut self, alloc: Global, request: &Request) -> Got<Option<Line>> {
+        let Some(KeptConnection { line, since }) = self.kept.take() else {
+            return Ok(None);
+        };
         match since.elapsed(self.rt) {
-            Ok(elapsed) if elapsed < Duration::from_secs(FRESH) && is_quiet(&stream) => {
-                Some(stream)
+            Ok(elapsed) if elapsed < Duration::from_secs(FRESH) => {
+                Ok(if line.suits(alloc, request)? {
+                    Some(line)
+                } else {
+                    None
+                })
             }
-            _ => None,
+            _ => Ok(None),
         }
     }
 
-    /// Keeps a connection after an exchange that leaves it open.
-    fn keep(&mut self, stream: TcpStream, end: &ExchangeEnd) {
-        if !self.keeps || !end.leaves_open() {
+    /// Keeps a connection after an exchange that leaves it open. From one that broke off with requests that were
+    /// sent ahead on, none is sent ahead any more.
+    fn keep(&mut self, line: Line, end: &ExchangeEnd) {
+        if !end.leaves_open() {
+            self.sends_ahead = self.sends_ahead && line.ahead.is_empty();
+            return;
+        }
+        if !self.keeps || !line.is_settled() {
             return;
         }
         if let Ok(since) = Instant::now(self.rt) {
-            self.kept = Some(KeptConnection { stream, since });
+            self.kept = Some(KeptConnection { line, since });
         }
     }
 
     /// Makes an exchange over the connection that was kept, or a new one. Where the one that was kept gave no
-    /// byte of a reply, a request that may be made twice is made again over a new one.
-    fn ask(&mut self, alloc: Global, request: &Request, since: Instant) -> Got<Answer> {
-        let Some(stream) = self.take_fresh() else {
+    /// byte of a reply, a request that may be made twice is made again over a new one. So is one that was sent
+    /// ahead of its turn and has no reply there, and from then on none is sent ahead.
+    fn ask(
+        &mut self,
+        alloc: Global,
+        request: &Request,
+        next: &[Request],
+        since: Instant,
+    ) -> Got<Answer> {
+        let Some(mut line) = self.take_fresh(alloc, request)? else {
             return self.ask_anew(alloc, request, since);
         };
-        let end = self.exchange_over(alloc, request, &stream, since)?;
+        let was_sent_ahead = !line.ahead.is_empty();
+        let end = self.exchange_over(alloc, request, next, &mut line, since)?;
+        if was_sent_ahead && !end.is_reply() {
+            self.sends_ahead = false;
+            return self.ask_anew(alloc, request, since);
+        }
         if end.is_unanswered() && may_be_repeated(request) {
             return self.ask_anew(alloc, request, since);
         }
-        self.keep(stream, &end);
+        self.keep(line, &end);
         Ok(end.answer)
     }
 
-    /// Makes an exchange over a new connection.
+    /// Makes an exchange over a new connection. No other request is sent over it until it was left open once
+    /// (RFC 9112, section 9.3.2).
     fn ask_anew(&mut self, alloc: Global, request: &Request, since: Instant) -> Got<Answer> {
         let Some(stream) = connect(self.rt, self.address)? else {
             return Ok(Answer::Lost);
         };
-        let end = self.exchange_over(alloc, request, &stream, since)?;
-        self.keep(stream, &end);
+        let mut line = Line {
+            stream,
+            ahead: Ahead::new(alloc),
+            held: VecDeque::new(alloc),
+        };
+        let end = self.exchange_over(alloc, request, &[], &mut line, since)?;
+        self.keep(line, &end);
         Ok(end.answer)
     }
 
-    /// Makes an exchange over a connection, whose reads and writes end when the time of the request does.
+    /// Makes an exchange over a connection, whose reads and writes end when the time of the request does. A
+    /// request that was sent ahead isn't written again; with another one those are sent that come next. What is
+    /// read behind the reply is held back.
     fn exchange_over(
         &self,
         alloc: Global,
         request: &Request,
-        stream: &TcpStream,
+        next: &[Request],
+        line: &mut Line,
         since: Instant,
     ) -> Got<ExchangeEnd> {
-        let mut reader = Logged::new(Timed::new(self.rt, stream, since, self.patience));
-        let mut writer = Logged::new(Timed::new(self.rt, stream, since, self.patience));
-        let end = make_exchange(alloc, request, &mut reader, &mut writer)?;
-        Ok(told_apart(end, reader.stream.is_strange()))
+        let held = mem::replace(&mut line.held, VecDeque::new(alloc));
+        let begins = held.is_empty();
+        let timed = Timed::new(self.rt, &line.stream, since, self.patience);
+        let mut reader = Logged::new(Resumed::new(alloc, timed, held));
+        let end = if line.ahead.is_empty() {
+            let bytes = line.ahead.queue(alloc, request, next)?;
+            let mut writer = Logged::new(Timed::new(self.rt, &line.stream, since, self.patience));
+            exchange_bytes(alloc, &bytes, &mut reader, &mut writer)?
+        } else {
+            line.ahead.begin_reply();
+            read_reply(alloc, &mut reader)?
+        };
+        let is_strange = begins && reader.stream.stream.is_strange();
+        line.held = reader.stream.take_back(alloc, end.surplus())?;
+        Ok(told_apart(end.without_surplus(), is_strange))
+    }
+}
+
+impl Line {
+    /// Tells whether a request can be made over the connection: the reply to it comes next, or there is nothing
+    /// to read.
+    fn suits(&self, alloc: Global, request: &Request) -> Got<bool> {
+        if self.ahead.is_empty() {
+            return Ok(is_quiet(&self.stream));
+        }
+        Ok(self.ahead.awaits(&request_bytes(alloc, request)?))
+    }
+
+    /// Tells whether nothing was read that no request awaits.
+    fn is_settled(&self) -> bool {
+        self.held.is_empty() || !self.ahead.is_empty()
     }
 }
 
 impl<R: Net<Stream = TcpStream> + Clock> Side for Address<'_, R> {
-    fn answer(&mut self, alloc: Global, request: &Request) -> Got<Answer> {
-        self.ask_patiently(alloc, request)
+    fn foresees(&self) -> bool {
+        match &self.kept {
+            Some(kept) => self.sends_ahead && kept.line.ahead.is_empty(),
+            None => false,
+        }
+    }
+
+    fn answer(&mut self, alloc: Global, request: &Request, next: &[Request]) -> Got<Answer> {
+        self.ask_patiently(alloc, request, next)
     }
 }
 

@@ -1,5 +1,6 @@
-ghost use Rattle.std.specs.Prelude.{◌≡◌, true};
-ghost use Rattle.sync.specs.Persistence.{LeavesOpen};
+ghost use Rattle.std.specs.Prelude.{◌≡◌, ◌+◌, is_some, true};
+ghost use Rattle.sync.specs.Answers.{reply_of};
+ghost use Rattle.sync.specs.Persistence.{LeavesOpen, surplus_of};
 ghost use Rattle.sync.specs.declared.answer.Answer.TheVariants.{Lost};
 
 use crate::answer::Answer;
@@ -26,6 +27,35 @@ impl ExchangeEnd {
             }
             Answer::Lost | Answer::Unreadable => false,
         }
+    }
+
+    /// Counts the bytes that were read behind the reply.
+    pub fn surplus(&self) -> u64
+        ensures { result ≡ surplus_of self.now.answer self.now.read }
+    {
+        match &self.answer {
+            Answer::Reply(reply) => self.read.saturating_sub(reply.bytes().len() as u64),
+            Answer::Lost | Answer::Unreadable => 0,
+        }
+    }
+
+    /// Returns what came of the exchange where the bytes behind the reply are held back, as if they were not read.
+    pub fn without_surplus(self) -> ExchangeEnd
+        ensures answer { result.answer ≡ self.answer }
+        ensures read { result.read + surplus_of self.answer self.read ≡ self.read }
+    {
+        let surplus = self.surplus();
+        ExchangeEnd {
+            answer: self.answer,
+            read: self.read - surplus,
+        }
+    }
+
+    /// Tells whether there is a reply.
+    pub fn is_reply(&self) -> bool
+        ensures { result ≡ is_some (reply_of self.now.answer) }
+    {
+        matches!(self.answer, Answer::Reply(_))
     }
 
     /// Tells whether the reply was lost before a byte of it was read.

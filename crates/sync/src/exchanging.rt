@@ -62,7 +62,24 @@ pub fn make_exchange<R: Read, W: Write>(
         (record { bytes = W.contents writer.new.stream; log = outcomes_of writer.new.log.items }) end.answer end.read) }
 {
     let bytes = request_bytes(alloc, request)?;
-    if !write_logged(writer, &bytes) {
+    exchange_bytes(alloc, &bytes, reader, writer)
+}
+
+/// Writes the bytes of a request, or of several, and reads the reply to the first.
+pub(crate) fn exchange_bytes<R: Read, W: Write>(
+    alloc: Global,
+    bytes: &[u8],
+    reader: &mut Logged<R>,
+    writer: &mut Logged<W>,
+) -> Got<ExchangeEnd>
+    ensures wrote { (all : Bool) × Takes (W.contents writer.old.stream) (W.contents writer.new.stream) bytes.now all }
+    ensures exchange { IfOk result (λ end. ExchangesBytes bytes.now
+        (record { bytes = R.remaining reader.old.stream; log = outcomes_of reader.old.log.items })
+        (record { bytes = R.remaining reader.new.stream; log = outcomes_of reader.new.log.items })
+        (record { bytes = W.contents writer.old.stream; log = outcomes_of writer.old.log.items })
+        (record { bytes = W.contents writer.new.stream; log = outcomes_of writer.new.log.items }) end.answer end.read) }
+{
+    if !write_logged(writer, bytes) {
         return Ok(ExchangeEnd {
             answer: Answer::Lost,
             read: 0,
@@ -71,8 +88,8 @@ pub fn make_exchange<R: Read, W: Write>(
     read_reply(alloc, reader)
 }
 
-/// Reads a reply.
-fn read_reply<R: Read>(alloc: Global, reader: &mut Logged<R>) -> Got<ExchangeEnd>
+/// Reads a reply, as `exchange` does.
+pub(crate) fn read_reply<R: Read>(alloc: Global, reader: &mut Logged<R>) -> Got<ExchangeEnd>
     ensures { IfOk result (λ end. ReadsBytes
         (record { bytes = R.remaining reader.old.stream; log = outcomes_of reader.old.log.items })
         (record { bytes = R.remaining reader.new.stream; log = outcomes_of reader.new.log.items }) end.answer end.read) }

@@ -29,7 +29,7 @@ pub fn ask_update_seq<S: Side>(alloc: Global, plan: &SyncPlan, source: &mut S) -
     ensures honest { S.is_honest source.new → S.is_honest source.old }
 {
     let request = information_request(alloc, plan)?;
-    match source.answer(alloc, &request)? {
+    match source.answer(alloc, &request, &[])? {
         Answer::Reply(reply) => update_seq_in(alloc, &reply),
         Answer::Lost | Answer::Unreadable => Ok(None),
     }

@@ -2,6 +2,7 @@
 #![tactic(auto)]
 
 mod address;
+mod ahead;
 mod answer;
 mod configuring;
 mod creating;
@@ -19,6 +20,7 @@ mod passing;
 mod persistence;
 mod planned;
 mod remote;
+mod resumed;
 mod series;
 mod side;
 mod sides;

@@ -18,7 +18,11 @@ impl<S: Store + Drop> Side for Node<S> {
     // A node has no such call.
     ghost breaks_off = { λ _ _ _. ⊥ };
 
-    fn answer(&mut self, _alloc: Global, request: &Request) -> Got<Answer> {
+    fn foresees(&self) -> bool {
+        false
+    }
+
+    fn answer(&mut self, _alloc: Global, request: &Request, _next: &[Request]) -> Got<Answer> {
         Ok(Answer::Reply(self.handle(request)))
     }
 }

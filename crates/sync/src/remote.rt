@@ -57,8 +57,12 @@ impl<P: Side> Side for Remote<P> {
     ghost breaks_off = { λ before m after.
         P.breaks_off before.server m after.server × IsLogged before.log.items m Lost after.log.items };
 
-    fn answer(&mut self, alloc: Global, request: &Request) -> Got<Answer> {
-        let answer = self.server.answer(alloc, request);
+    fn foresees(&self) -> bool {
+        self.server.foresees()
+    }
+
+    fn answer(&mut self, alloc: Global, request: &Request, next: &[Request]) -> Got<Answer> {
+        let answer = self.server.answer(alloc, request, next);
         match answer {
             Ok(answer) => {
                 self.note(request, &answer);

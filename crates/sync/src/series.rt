@@ -1,12 +1,12 @@
 //! A pass that goes on with smaller batches where one is too long for its target.
 
-ghost use Rattle.std.specs.Prelude.{◌≡◌, ◌⊎◌, None, Some, IfErr, IfOk, OnErr, option_map};
+ghost use Rattle.std.specs.Prelude.{◌≡◌, ◌⊎◌, Err, None, Some, IfErr, IfOk, OnErr, option_map};
 ghost use Rattle.std.specs.Io.KnownBytes.{Appends};
 ghost use Rattle.command_line.specs.Plan.{sync_of};
 ghost use Rattle.repl.specs.Asks.{ask_of, pass_of, report_of};
 ghost use Rattle.repl.specs.Passes.{Asked};
 ghost use Rattle.sync.specs.Ending.{StandsIn, end_text, status_of};
-ghost use Rattle.sync.specs.Series.{IsSeries, is_too_long, joined_end, narrowed, reported_before};
+ghost use Rattle.sync.specs.Series.{EndsSeriesEarly, IsSeries, is_too_long, joined_end, narrowed, reported_before};
 
 use crate::configuring::configure_with;
 use crate::ending::{print_end, status_of};
@@ -37,6 +37,8 @@ pub struct Manner {
 /// Plays the pass of a plan between two sides to its end, and prints its report. Where the target refuses a
 /// batch as too long, the pass goes on from its last checkpoint with a quarter of it, down to one change. The
 /// report is that of all of it. Returns the program's status.
+///
+/// `File`: a pass hasn't ended after 2^32 exchanges, or the line can't be written whole. `Memory`: memory ran out.
 pub fn sync_series<F: Side, T: Side, W: Write, V: Watch>(
     alloc: Global,
     plan: &SyncPlan,
@@ -49,7 +51,14 @@ pub fn sync_series<F: Side, T: Side, W: Write, V: Watch>(
         × IsSeries F.answers T.answers (sync_of plan.now) 7 (record { batch = plan.now.batch; is_from_start = plan.now.from_start }) None
         (record { source = source.old; target = target.old }) asked (record { source = source.new; target = target.new })
         × (status ≡ status_of asked) × Appends (W.contents writer.old) (W.contents writer.new) (end_text asked)) }
+
+    // At a refusal the exchanges so far stand, and the side that was asked may have answered once more. What was printed before stands, and where memory ran
+    // out nothing was printed.
+    ensures early { F.is_honest source.new → T.is_honest target.new → OnErr result (EndsSeriesEarly F.answers F.breaks_off T.answers T.breaks_off (sync_of plan.now) 7
+        (record { batch = plan.now.batch; is_from_start = plan.now.from_start }) None
+        (record { source = source.old; target = target.old }) (record { source = source.new; target = target.new })) }
     ensures kept { OnErr result (StandsIn (W.contents writer.old) (W.contents writer.new)) }
+    ensures memory { result ≡ Err ProgramFault.Memory → W.contents writer.new ≡ W.contents writer.old }
     ensures faults { IfErr result (λ fault. (fault ≡ ProgramFault.File) ⊎ (fault ≡ ProgramFault.Memory)) }
 {
     let end = play_series(alloc, plan, source, target, watch);
@@ -71,6 +80,9 @@ fn play_series<F: Side, T: Side, V: Watch>(
     ensures ended { F.is_honest source.new → T.is_honest target.new → IfOk result (λ end.
         IsSeries F.answers T.answers (sync_of plan.now) 7 (record { batch = plan.now.batch; is_from_start = plan.now.from_start }) None
         (record { source = source.old; target = target.old }) (ask_of end) (record { source = source.new; target = target.new })) }
+    ensures early { F.is_honest source.new → T.is_honest target.new → OnErr result (EndsSeriesEarly F.answers F.breaks_off T.answers T.breaks_off (sync_of plan.now) 7
+        (record { batch = plan.now.batch; is_from_start = plan.now.from_start }) None
+        (record { source = source.old; target = target.old }) (record { source = source.new; target = target.new })) }
     ensures faults { IfErr result (λ fault. (fault ≡ ProgramFault.File) ⊎ (fault ≡ ProgramFault.Memory)) }
 {
     let mut manner = Manner {

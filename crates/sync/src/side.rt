@@ -20,8 +20,12 @@ pub trait Side {
     /// What a side may be where memory ran out as it was asked: what it was, the request, and what it is then.
     ghost breaks_off: { Self → Message → Self → Type 0 } = { λ _ _ _. ⊤ };
 
-    /// Asks the side, and returns what comes of that.
-    fn answer(&mut self, alloc: Global, request: &Request) -> Got<Answer>
+    /// Tells whether the side makes use of knowing now what it is asked next.
+    fn foresees(&self) -> bool;
+
+    /// Asks the side, and returns what comes of that. `next` has what it is asked behind that, in this order, if
+    /// all goes well.
+    fn answer(&mut self, alloc: Global, request: &Request, next: &[Request]) -> Got<Answer>
         ensures answered { is_honest self.new → IfOk result (λ answer. answers self.old (message_of request.now) answer self.new) }
         ensures refused { is_honest self.new → OnErr result (breaks_off self.old (message_of request.now) self.new) }
         ensures honest { is_honest self.new → is_honest self.old };

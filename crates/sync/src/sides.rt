@@ -10,6 +10,7 @@ ghost use Rattle.sync.specs.Sides.{BreaksOff, HasTurn, MayBreakOff, pass_with_an
 ghost use Rattle.sync.specs.Turns.{ComesToEnd, EndsBy, EndsEarly, StopsInTurn};
 ghost use Rattle.sync.specs.declared.answer.Answer.{Answer};
 
+use crate::ahead::MOST_AHEAD;
 use crate::answer::Answer;
 use crate::ending::{print_end, status_of};
 use crate::limits::MOST_TURNS;
@@ -115,16 +116,25 @@ fn take_turn<F: Side, T: Side, V: Watch>(
     let ask = pass.ask()?;
     match ask {
         Ask::ToSource(request) => {
-            ask_side(alloc, source, pass, &request)?;
+            let next = next_requests(alloc, source, pass)?;
+            ask_side(alloc, source, pass, &request, &next)?;
             Ok(None)
         }
         Ask::ToTarget(request) => {
-            ask_side(alloc, target, pass, &request)?;
+            ask_side(alloc, target, pass, &request, &[])?;
             tell_checkpoint(pass, &request, watch);
             Ok(None)
         }
         Ask::Done(_) | Ask::Stopped(_, _) => Ok(Some(ask)),
     }
+}
+
+/// Makes the requests to its source that follow the one that a pass asks now, where the source makes use of them.
+fn next_requests<F: Side>(alloc: Global, source: &F, pass: &Replication) -> Got<Vec<Request>> {
+    if source.foresees() {
+        return pass.ask_next(MOST_AHEAD);
+    }
+    Ok(Vec::new(alloc))
 }
 
 /// Has a side answer a request, and the pass take in the answer.
@@ -133,6 +143,7 @@ fn ask_side<A: Side>(
     side: &mut A,
     pass: &mut Replication,
     request: &Request,
+    next: &[Request],
 ) -> Got<()>
     ensures ok { A.is_honest side.new → OnOk result ((answer : Answer) × A.answers side.old (message_of request.now) answer side.new
         × (pass_of pass.new ≡ pass_with_answer (pass_of pass.old) answer)) }
@@ -140,7 +151,7 @@ fn ask_side<A: Side>(
     ensures pass { OnErr result (pass_of pass.new ≡ pass_of pass.old) }
     ensures honest { A.is_honest side.new → A.is_honest side.old }
 {
-    let answer = side.answer(alloc, request)?;
+    let answer = side.answer(alloc, request, next)?;
     take_in(pass, answer)
 }
 
