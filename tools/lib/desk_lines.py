@@ -1,4 +1,4 @@
-"""Follows the lines of docs/OPERATE.md from its top to the end of 'The desk' on a machine of their own, for tools/documents.
+"""Follows the lines of docs/OPERATE-DESK.md on a machine of their own, up to its last section, for tools/documents.
 
 It has to run in a namespace of mounts and networks of its own: what is written is held in memory, on an overlay of the
 root, and the ports are free. Lines of apt-get aren't run, and in place of systemd nginx is started. Then it asks for
@@ -29,14 +29,12 @@ REQUESTS += ["/plans/_changes?style=all_docs", "/plans/week?revs=true&open_revs=
 
 
 def lines_of(page: str) -> list[str]:
-    """Returns the lines that a reader runs: blocks of commands, and in 'The desk' its lines for root too."""
-    found, is_desk = [], False
+    """Returns the lines that a reader runs: blocks of commands, and the lines for root. The last section ends the server."""
+    found: list[str] = []
     for _, kind, text in blocks_of(page):
-        if kind == "heading":
-            if is_desk:
-                break
-            is_desk = text.lstrip("# ") == "The desk"
-        elif kind == "sh" or (is_desk and text.startswith("apt-get ")):
+        if kind == "heading" and text.lstrip("# ") == "See that it worked":
+            break
+        if kind == "sh" or text.startswith("apt-get "):
             found += text.strip().split("\n")
     return ["nginx" if line == "systemctl restart nginx" else line for line in found if not line.startswith("apt-get ")]
 
@@ -76,7 +74,7 @@ def main() -> None:
         raise_loopback()
     except (subprocess.CalledProcessError, OSError):
         sys.exit(NO_MACHINE)
-    with open(f"{TOP}/docs/OPERATE.md", encoding="utf-8") as file:
+    with open(f"{TOP}/docs/OPERATE-DESK.md", encoding="utf-8") as file:
         lines = lines_of(file.read())
     ending = "echo followed; read -r _; kill $(jobs -p); kill $(cat /run/nginx.pid); wait"
     script = "\n".join(["set -e", f"cd {TOP}", *lines, ending])

@@ -1,6 +1,6 @@
 """Files of version 1, made by statements alone: what couchd 0.1.0 laid out.
 
-Their tables are those of docs/OPERATE.md. In the keys of their indexes a number takes eight bytes, in place of
+Their tables are those of crates/tables/README.md. In the keys of their indexes a number takes eight bytes, in place of
 nine. A server that opens such a file carries it over to version 2.
 """
 import contextlib

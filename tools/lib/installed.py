@@ -95,22 +95,22 @@ def check_manuals(place: Any) -> None:
 
 
 def check_pages(place: Any) -> None:
-    """Runs the lines of the section 'Your first request' of OPERATE, which are six, and prints what stands there."""
-    with open(f"{place.root}/usr/share/doc/couchd/OPERATE.md", encoding="utf-8") as file:
+    """Runs the lines of the section 'Your first request' of OPERATE-INSTALL, which are six, and prints what stands there."""
+    with open(f"{place.root}/usr/share/doc/couchd/OPERATE-INSTALL.md", encoding="utf-8") as file:
         blocks = blocks_of(file.read())
     start = next((index for index, (_, kind, text) in enumerate(blocks) if kind == "heading" and text.endswith(" Your first request")), None)
-    compare("OPERATE: 'Your first request'", True, start is not None)
+    compare("OPERATE-INSTALL: 'Your first request'", True, start is not None)
     if start is None:
         return
     (_, _, lines), (_, _, printed) = blocks[start + 1 : start + 3]
-    compare("OPERATE: 'Your first request': six lines", 6, len(lines.strip().split("\n")))
+    compare("OPERATE-INSTALL: 'Your first request': six lines", 6, len(lines.strip().split("\n")))
     # dpkg has installed it, and what systemd starts is started by hand.
     played = [line for line in lines.strip().split("\n") if not line.startswith(("apt-get ", "systemctl "))]
-    compare("OPERATE: 'Your first request': what isn't played", 2, 6 - len(played))
+    compare("OPERATE-INSTALL: 'Your first request': what isn't played", 2, 6 - len(played))
     os.rename(f"{place.root}{DATA}/{PORT}.db", f"{place.root}{DATA}/before.db")
     os.rename(f"{place.root}{DATA}/{PORT}.db-wal", f"{place.root}{DATA}/before.db-wal")
     with serving(place, PORT, settings_of(place)):
-        compare("OPERATE: 'Your first request'", printed, ran_well(place, "OPERATE: 'Your first request'", "\n".join(played)))
+        compare("OPERATE-INSTALL: 'Your first request'", printed, ran_well(place, "OPERATE-INSTALL: 'Your first request'", "\n".join(played)))
 
 
 # ---- check

@@ -1,6 +1,6 @@
 """Says what a server shows of the rows of a file that somebody may have edited, in plain python.
 
-Each page shows the rows that docs/OPERATE.md, 'The file' has for it, and nothing else: lists those of `docs`, a
+Each page shows the rows that crates/tables/README.md, 'Tables' has for it, and nothing else: lists those of `docs`, a
 document those of `revs`, a view those of `decls` and `entries`. Whether rows agree with one another isn't looked at
 here. It was written from that page and from docs/PROFILE.md, and has nothing of the program.
 """

@@ -1,6 +1,6 @@
 """Says which rows of a file no store has, and what node the others hold, in plain python, for tools/file_check.
 
-It was written from docs/OPERATE.md 'The file' and from docs/PROFILE.md, and has nothing of the program. Rows are read
+It was written from crates/tables/README.md, 'Tables', and from docs/PROFILE.md, and has nothing of the program. Rows are read
 by SQLite's own library.
 """
 from __future__ import annotations
@@ -36,7 +36,7 @@ Rows = dict[str, list[Row]]
 
 
 class Wrong(NamedTuple):
-    """A row that no store has: its table, its number there, and the words of OPERATE that say what is wrong with it."""
+    """A row that no store has: its table, its number there, and the words of OPERATE-BACKUP that say what is wrong with it."""
 
     table: str
     key: int

@@ -10,7 +10,7 @@ from lib.desk.scripts import SETTLED_VIEW
 
 # In milliseconds: how long a view may take.
 BOUND = 5000
-# What OPERATE says of how many lines are shown first, and the brackets around them.
+# What OPERATE-DESK says of how many lines are shown first, and the brackets around them.
 MOST_LINES = 2002
 # A line of a difference is cut behind 10,000 characters.
 LONGEST_LINE = 10_100

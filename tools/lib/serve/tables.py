@@ -23,7 +23,7 @@ def change(file, sql):
 
 
 def check_tables(options, file):
-    """SQLite's library reads the file, and its rows are those that docs/OPERATE.md tells."""
+    """SQLite's library reads the file, and its rows are those that crates/tables/README.md tells."""
     server = Server(options, file, 1)
     with connected(server.port) as made:
         made.sendall(request("PUT", "/db") + request("PUT", "/db/a", {"v": 1}) + request("PUT", "/db/_local/l", {"w": 2}, more=["Connection: close"]))
