@@ -20,6 +20,7 @@ sys.path.append(os.path.dirname(os.path.dirname(os.path.abspath(__file__))))
 from lib.checks import blocks_of
 from lib.place import mount, raise_loopback
 from lib.server import TOP
+from lib.values import present
 
 USER, PASSWORD = "alice", "try"
 # The status where no overlay can be had.
@@ -82,7 +83,7 @@ def main() -> None:
     script = "\n".join(["set -e", f"cd {TOP}", *lines, ending])
     shell = subprocess.Popen(["chroot", root, "bash", "-c", script], stdin=subprocess.PIPE, stdout=subprocess.PIPE, stderr=subprocess.PIPE, text=True)
     printed = []
-    for line in shell.stdout:
+    for line in present(shell.stdout):
         printed.append(line)
         if line == "followed\n":
             break

@@ -5,6 +5,8 @@ import random
 from collections.abc import Callable
 from typing import Any
 
+from lib.values import Json, Object
+
 COMPARING = ["$eq", "$ne", "$lt", "$lte", "$gt", "$gte"]
 OF_SELECTORS = ["$and", "$or", "$nor"]
 OF_SELECTOR = ["$not", "$elemMatch", "$allMatch"]
@@ -12,9 +14,12 @@ TYPES = ["null", "boolean", "number", "string", "array", "object"]
 NUMBERS = [-(2**63), -3, -2, -1, 1, 2, 3, 2**63, 2**64 - 1]
 # Members of a selector that are bad: an operator that doesn't exist, a path that is none, and an argument of another form.
 BAD_MEMBERS: list[tuple[str, Any]] = [("$foo", 1), ("$", 1), ("$regex", "a"), ("$sameAs", "a"), ("", 1), ("a.", 1), (".a", {}), ("a..b", 1), ("a" * 257, 1)]
-BAD_MEMBERS += [(name, bad) for name in ("$in", "$nin", "$all") for bad in (None, "a", {})]
-BAD_MEMBERS += [(name, bad) for name in OF_SELECTORS for bad in ([], {}, [1], [{}, 1], "a")]
-BAD_MEMBERS += [(name, bad) for name in OF_SELECTOR for bad in (None, 1, [], [{}])]
+NO_LISTS: list[Json] = [None, "a", {}]
+NO_SELECTORS: list[Json] = [[], {}, [1], [{}, 1], "a"]
+NO_SELECTOR: list[Json] = [None, 1, [], [{}]]
+BAD_MEMBERS += [(name, bad) for name in ("$in", "$nin", "$all") for bad in NO_LISTS]
+BAD_MEMBERS += [(name, bad) for name in OF_SELECTORS for bad in NO_SELECTORS]
+BAD_MEMBERS += [(name, bad) for name in OF_SELECTOR for bad in NO_SELECTOR]
 BAD_MEMBERS += [("$exists", 1), ("$exists", None), ("$type", "text"), ("$type", None), ("$size", "1"), ("$size", True), ("$size", [1])]
 BAD_MEMBERS += [("$mod", bad) for bad in (2, [], [1], [0, 1], [1, 2, 3], ["1", 2], [1, None], [True, 1], {})]
 
@@ -82,6 +87,7 @@ class Selectors:
 
     def choice_of_bad(self) -> dict[str, Any]:
         """Makes a member that no find has, or has in another form."""
-        bad = [{"selector": None}, {"limit": -1}, {"skip": "1"}, {"limit": True}, {"skip": 2**63}, {"more": 1}]
-        bad += [{"sort": sort} for sort in (None, "a", [1], [""], [{}], [{"a": "up"}], [{"a": "asc"}, {"b": "desc"}], ["a"] * 9, [{"a": "asc", "b": "asc"}])]
+        bad: list[Object] = [{"selector": None}, {"limit": -1}, {"skip": "1"}, {"limit": True}, {"skip": 2**63}, {"more": 1}]
+        sorts: list[Json] = [None, "a", [1], [""], [{}], [{"a": "up"}], [{"a": "asc"}, {"b": "desc"}], ["a"] * 9, [{"a": "asc", "b": "asc"}]]
+        bad += [{"sort": sort} for sort in sorts]
         return self.choices.choice(bad)

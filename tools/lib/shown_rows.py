@@ -46,7 +46,7 @@ def page_of(rows: Rows, database: Row, page: str) -> Reply:
     if page == "_security":
         return found(json.loads(security))
     if page == "_all_docs":
-        return found(list_of([by_id(row) for row in sorted(documents, key=lambda row: row[2]) if is_live(row)]))
+        return found(list_of([by_id(row) for row in sorted(documents, key=lambda row: bytes(row[2])) if is_live(row)]))
     if page.startswith("_changes"):
         return found(changes(rows, documents, sequence))
     if page.startswith("_local/"):
@@ -57,7 +57,8 @@ def page_of(rows: Rows, database: Row, page: str) -> Reply:
 
 def is_live(row: Row) -> bool:
     """Tells whether a document is one of those that lists by id show."""
-    return row[5] == 0 and row[2] < ID_END
+    _, _, id, _, _, deleted = row
+    return bool(deleted == 0 and id < ID_END)
 
 
 def information(name: bytes, documents: list[Row], sequence: int) -> Reply:
@@ -118,8 +119,9 @@ def leaves(rows: Rows, number: int, id: str) -> list[dict[str, Any]]:
 def shown(document: Document, id: str, revision: str) -> dict[str, Any]:
     """Returns a revision with its path."""
     deleted, body = document.held[revision]
-    path, one = [], revision
-    while one in document.parents:
+    path: list[str] = []
+    one: str | None = revision
+    while one is not None and one in document.parents:
         path.append(one.partition("-")[2])
         one = document.parents[one]
     mark = {"_deleted": True} if deleted else {}
@@ -129,7 +131,7 @@ def shown(document: Document, id: str, revision: str) -> dict[str, Any]:
 def changes(rows: Rows, documents: list[Row], sequence: int) -> dict[str, Any]:
     """Returns the documents by their sequences, with their leaves."""
     results = []
-    for _, number, id, at, _, deleted in sorted(documents, key=lambda row: row[3]):
+    for _, number, id, at, _, deleted in sorted(documents, key=lambda row: int(row[3])):
         mark = {"deleted": True} if deleted else {}
         if at > 0:
             listed = [{"rev": one} for one in listed_leaves(history_of(rows, number, id))]

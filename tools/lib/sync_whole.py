@@ -1,22 +1,30 @@
 """Passes that miss nothing and give up nothing, and servers that would keep them from it, for tools/sync_check."""
+from __future__ import annotations
+
+import argparse
 import contextlib
 import json
 import os
 import signal
+import socket
 import subprocess
 import threading
 import time
+from collections.abc import Callable, Iterable
+from typing import Any
 
 from lib.checks import compare
 from lib.server import ADMIN, connected, finds_sound, first_revision, reply, reply_of, reply_with, request, text_of
-from lib.syncing import DONE, asked, copied, empty, fill, held, on_terminal, outcome, peer, report, request_of, serving, stopped, synced, words_of
+from lib.syncing import DONE, Side, Through, asked, copied, empty, fill, held, on_terminal, outcome, peer, report, request_of, serving, stopped, synced, words_of
+from lib.values import Json, Object, present
+
 
 OWNED = {"newDoc.owner": {"$sameAs": "userCtx.name"}}
 # The same, but for those who copy.
 MENDED = {"$or": [{"userCtx.roles": {"$all": ["_admin"]}}, OWNED]}
 
 
-def written(made, user, path, body):
+def written(made: socket.socket, user: str, path: str, body: Json) -> int:
     """Writes a document as a user, and returns the status."""
     made.sendall(request("PUT", path, body, user=user))
     return int(reply_of(made)[0][9:12])
@@ -25,7 +33,7 @@ def written(made, user, path, body):
 # ---- what was refused
 
 
-def check_nights(options, room):
+def check_nights(options: argparse.Namespace, room: str) -> None:
     """A rule of the source refuses at the target what others wrote. Once it is mended a pass from the start brings it."""
     source, target = f"{room}/owned.db", f"{room}/owned-copy.db"
     server = serving(options, source, at_once=8)
@@ -61,7 +69,7 @@ def check_nights(options, room):
 # ---- batches that are too long
 
 
-def long_documents(options, room):
+def long_documents(options: argparse.Namespace, room: str) -> str:
     """Makes a database of 500 documents of 10 kB and three of 1.5 MB, and returns its file."""
     file = f"{room}/long.db"
     server = serving(options, file)
@@ -76,7 +84,7 @@ def long_documents(options, room):
     return file
 
 
-def check_long(options, room, through):
+def check_long(options: argparse.Namespace, room: str, through: Through | None) -> None:
     """Batches of more than 4 MiB go over in smaller ones; a document that a proxy refuses is named."""
     source, target = long_documents(options, room), f"{room}/long-copy.db"
     wanted = held(options, source)
@@ -116,7 +124,7 @@ def check_long(options, room, through):
 # ---- servers that are away
 
 
-def check_away(options, room, source, through):
+def check_away(options: argparse.Namespace, room: str, source: str, through: Through | None) -> None:
     """A server that is killed in the middle of a pass and back after some seconds costs the pass nothing, behind nginx either."""
     ways = [(side, before) for before in ([None, through] if through else [None]) for side in ("source", "target")]
     for side, before in ways:
@@ -135,19 +143,19 @@ def check_away(options, room, source, through):
             time.sleep(3)
             server = serving(options, served, port=server.port, at_once=8)
             time.sleep(1)
-        line = running.stdout.read().decode()
+        line = present(running.stdout).read().decode()
         compare(f"a {side} that is away: {line}", (0, True), (running.wait(300), kills > 0))
         stopped(server)
         finds_sound(options, f"a {side} that is away", served)
         compare(f"a {side} that is away: what both hold", held(options, source), held(options, other if side == "source" else served))
 
 
-def check_slow(options, room, source):
+def check_slow(options: argparse.Namespace, room: str, source: str) -> None:
     """A server that sends a byte each second takes as long as the patience, and not longer."""
     ends = threading.Event()
 
-    def answer(listener, made):
-        def drip():
+    def answer(listener: socket.socket, made: socket.socket) -> None:
+        def drip() -> None:
             with made, contextlib.suppress(OSError):
                 made.recv(65536)
                 made.sendall(b"HTTP/1.1 200 OK\r\nContent-Length: 500\r\n\r\n")
@@ -167,7 +175,7 @@ def check_slow(options, room, source):
 # ---- the right names
 
 
-def check_names(options, room, source):
+def check_names(options: argparse.Namespace, room: str, source: str) -> None:
     """A source that isn't there makes nothing; what is no address is a wrong command line."""
     gone, target = f"{room}/gone.db", f"{room}/none-made.db"
     compare("a source file that isn't there", (1, "", ["couchd: file"]), synced(options, "F1", gone, target, more=["--create"]))
@@ -183,7 +191,7 @@ def check_names(options, room, source):
 # ---- many leaves
 
 
-def check_leaves(options, room, through):
+def check_leaves(options: argparse.Namespace, room: str, through: Through | None) -> None:
     """A document of 380 leaves comes from a server, through nginx too: its leaves are asked for in several requests."""
     source = f"{room}/leaves.db"
     server = serving(options, source, at_once=8)
@@ -205,18 +213,18 @@ def check_leaves(options, room, through):
 class Hostile:
     """A server that answers as couchd does where nothing is stored, but for some requests by the beginnings of their lines."""
 
-    def __init__(self, **replies):
+    def __init__(self, **replies: bytes | Callable[[], bytes]) -> None:
         self.replies = replies
 
-    def __call__(self, listener, made):
+    def __call__(self, listener: socket.socket, made: socket.socket) -> None:
         threading.Thread(target=self.converse, args=(made,), daemon=True).start()
 
-    def converse(self, made):
+    def converse(self, made: socket.socket) -> None:
         with made, contextlib.suppress(OSError):
             while sent := request_of(made):
                 made.sendall(self.answer(sent.split(b"\r\n", 1)[0].decode()))
 
-    def answer(self, line):
+    def answer(self, line: str) -> bytes:
         for name, bytes_of in self.replies.items():
             if name in line:
                 return bytes_of() if callable(bytes_of) else bytes_of
@@ -227,22 +235,25 @@ class Hostile:
         return reply(200, {})
 
 
-def measured(options, *words, **others):
+def measured(
+    options: argparse.Namespace, session: str, source: Side, target: Side, more: Iterable[str] = ()
+) -> tuple[int, str, int]:
     """Runs a pass, and returns its status, its line and how many MB of memory it took at most."""
-    running = subprocess.Popen(words_of(options, *words, **others), stdin=subprocess.DEVNULL, stdout=subprocess.PIPE, stderr=subprocess.DEVNULL)
+    words = words_of(options, session, source, target, more=more)
+    running = subprocess.Popen(words, stdin=subprocess.DEVNULL, stdout=subprocess.PIPE, stderr=subprocess.DEVNULL)
     most = 0
     while running.poll() is None:
         with contextlib.suppress(OSError), open(f"/proc/{running.pid}/status", encoding="ascii") as file:
             most = max([most, *(int(line.split()[1]) >> 10 for line in file if line.startswith("VmHWM"))])
         time.sleep(0.01)
-    return running.returncode, running.stdout.read().decode(), most
+    return running.returncode, present(running.stdout).read().decode(), most
 
 
-def listed(rows, last_seq):
+def listed(rows: list[Object], last_seq: int) -> bytes:
     return reply(200, {"last_seq": last_seq, "results": rows})
 
 
-def check_hostile(options, room):
+def check_hostile(options: argparse.Namespace, room: str) -> None:
     """Servers that list more than was asked for, or the same for ever, and that tell of more than was sent."""
     target, source = f"{room}/hostile.db", f"{room}/hostile-source.db"
     # What the program takes without any of that.

@@ -158,7 +158,7 @@ def quick_has_sign(desk: Desk) -> bool:
         desk.go("left", "find", text="Find")
         took, has_sign = desk.run(script, "#/left/local", "Local documents") if number % 2 else desk.run(script, "#/left/changes", "Changes")
         if took < 200:
-            return has_sign
+            return bool(has_sign)
     return False
 
 

@@ -1,6 +1,7 @@
 """Keys, labels, colours and widths, and the pictures of the pages."""
 import argparse
 import hashlib
+from typing import Any
 
 from lib.checks import compare
 from lib.desk.page import ENTER, Desk
@@ -54,13 +55,15 @@ def check_looks(place: Place, desk: Desk) -> None:
 def seed_pictures(place: Place) -> None:
     """Makes documents for the pictures, with names of revisions as a server gives them."""
     names = [hashlib.md5(f"week {number}".encode()).hexdigest() for number in range(60)]
-    base = {"day": "Monday", "guests": ["Ann", "Bo"], "place": {"house": "North", "room": 12}, "title": "Week 48"}
+    base: dict[str, Any] = {"day": "Monday", "guests": ["Ann", "Bo"], "place": {"house": "North", "room": 12}, "title": "Week 48"}
+    tuesday: dict[str, Any] = {**base, "day": "Tuesday", "budget": GREATEST, "place": {"house": "South", "room": 12}}
+    friday: dict[str, Any] = {**base, "day": "Friday", "guests": ["Ann", "Bo", "Cy"], "place": {"house": "North", "room": 7}}
     place.made("PUT", "/plans")
     place.push(
         "plans",
         {"_id": "week", **revision(*names[2::-1], **base)},
-        {"_id": "week", **revision(names[3], *names[2::-1], **{**base, "day": "Tuesday", "budget": GREATEST, "place": {"house": "South", "room": 12}})},
-        {"_id": "week", **revision(*names[11:4:-1], *names[2::-1], **{**base, "day": "Friday", "guests": ["Ann", "Bo", "Cy"], "place": {"house": "North", "room": 7}})},
+        {"_id": "week", **revision(names[3], *names[2::-1], **tuesday)},
+        {"_id": "week", **revision(*names[11:4:-1], *names[2::-1], **friday)},
         {"_id": "week", **revision(*names[31:28:-1], names[0], _deleted=True)},
     )
     for number, name in enumerate(["menu", "shifts", "garden", "fleet", "keys"], 40):

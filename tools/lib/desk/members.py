@@ -7,9 +7,9 @@ from lib.desk.page import ENTER, Desk
 from lib.desk.place import GREATEST, Place, revision
 from lib.desk.scripts import MEMBERS
 
-BASE = {"address": {"city": "Bonn", "street": {"name": "x", "no": 1}}, "day": "Monday", "gone": 1, "same": [1], "map": {"__proto__": {"a": 1}}}
+BASE: dict[str, Any] = {"address": {"city": "Bonn", "street": {"name": "x", "no": 1}}, "day": "Monday", "gone": 1, "same": [1], "map": {"__proto__": {"a": 1}}}
 LEFT = {**BASE, "address": {"city": "Ulm", "street": {"name": "z", "no": 2}}}
-RIGHT = {"address": {"city": "Kiel", "street": {"name": "x", "no": 1}}, "day": "Friday", "new": GREATEST, "same": [1], "map": {"__proto__": {"a": 2}}}
+RIGHT: dict[str, Any] = {"address": {"city": "Kiel", "street": {"name": "x", "no": 1}}, "day": "Friday", "new": GREATEST, "same": [1], "map": {"__proto__": {"a": 2}}}
 # What the table says: the member, the value of each side with what it did to the ancestor, and which of them is taken.
 ADDRESS = ["address", '{"city":"Ulm","street":{"name":"z","no":2}} changed', '{"city":"Kiel","street":{"name":"x","no":1}} changed', "left"]
 INNER = [["address.city", '"Ulm" changed', '"Kiel" changed', "left"], ["address.street", '{"name":"z","no":2} changed', '{"name":"x","no":1}', "left"]]
@@ -21,7 +21,7 @@ OTHERS = [
     ["new", "no such member", f"{GREATEST} added", "right"],
 ]
 # Presses one after the other, and what each of them changes of the merged body; None takes a member away.
-PRESSES = [
+PRESSES: list[tuple[str, dict[str, Any]]] = [
     ('address.city: take "Kiel" of 2-a2 conflict', {"address": {"city": "Kiel", "street": {"name": "z", "no": 2}}}),
     ("address.street.no: take 1 of 2-a2", {"address": {"city": "Kiel", "street": {"name": "z", "no": 1}}}),
     ("gone: take 1 of 2-b2 winner", {"gone": 1}),

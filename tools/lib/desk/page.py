@@ -39,7 +39,8 @@ class Desk(Browser):
 
     def heading(self) -> str:
         """Returns the heading of the view on the screen, or "" while there is none."""
-        return self.run("return document.querySelector('#view h2')?.textContent ?? ''")
+        heading: str = self.run("return document.querySelector('#view h2')?.textContent ?? ''")
+        return heading
 
     def press_button(self, text: str) -> None:
         self.find("button", text).click()
@@ -62,7 +63,8 @@ class Desk(Browser):
     def processor_time(self) -> float:
         """Returns how many seconds of a processor the page has taken."""
         self.emulate("Performance.enable")
-        return next(one["value"] for one in self.emulate("Performance.getMetrics")["metrics"] if one["name"] == "ProcessTime")
+        metrics = self.emulate("Performance.getMetrics")["metrics"]
+        return float(next(one["value"] for one in metrics if one["name"] == "ProcessTime"))
 
     def tab_to(self, text: str) -> None:
         """Presses the key that goes on, until the element with this text has the focus."""

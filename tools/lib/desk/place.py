@@ -14,7 +14,8 @@ from urllib.parse import quote
 
 from lib.checks import compare
 from lib.nginx import deployed
-from lib.server import ADMIN, SECRET, TOP, Server, free_port, proxy_lines, start_nginx, text_of, token_of
+from lib.server import ADMIN, SECRET, TOP, Server, free_port, proxy_lines, start_nginx, text_of
+from lib.settings import token_of
 
 GREATEST, LEAST = 2**64 - 1, -(2**63)
 USERS = [ADMIN, "alice", "bob", "zo\u00eb"]

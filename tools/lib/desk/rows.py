@@ -53,7 +53,7 @@ def member(value: Any, name: str) -> Any:
 def merge_of(base: Any, sides: list[Any], path: list[str]) -> tuple[Any, list[list[str]]]:
     """Returns what becomes of one value, and the paths below it that were changed in different ways."""
     candidates = sides if base is Unknown else [side for side in sides if not is_same(side, base)]
-    changed = []
+    changed: list[Any] = []
     for one in candidates:
         changed += [] if any(is_same(one, other) for other in changed) else [one]
     if len(changed) < 2:
@@ -115,10 +115,11 @@ def some_leaves(chance: random.Random) -> list[dict[str, Any]]:
         for _ in range(chance.randint(1, 9)):
             path = [*path, f"{len(path) + 1}-{chance.randrange(16):x}n{number}"]
         paths = [one for one in paths if one != path[: len(one)]] + [path]
-    leaves = []
+    leaves: list[dict[str, Any]] = []
     for path in paths:
         hashes = [one.split("-")[1] for one in reversed(path)]
-        leaves.append({"_id": "d", "_rev": path[-1], "_revisions": {"start": len(path), "ids": hashes}, **({"_deleted": True} if chance.random() < 0.3 else {})})
+        mark = {"_deleted": True} if chance.random() < 0.3 else {}
+        leaves.append({"_id": "d", "_rev": path[-1], "_revisions": {"start": len(path), "ids": hashes}, **mark})
     return sorted(leaves, key=lambda leaf: ("_deleted" not in leaf, leaf["_revisions"]["start"], leaf["_rev"].split("-")[1]), reverse=True)
 
 
@@ -133,7 +134,11 @@ def revisions_of(leaves: list[dict[str, Any]]) -> dict[str, str | None]:
     return {one: parent for path in map(path_of, leaves) for one, parent in zip(path, path[1:] + [None])}
 
 
+def number_of(revision: str) -> int:
+    return int(revision.partition("-")[0])
+
+
 def ancestor_of(leaves: list[dict[str, Any]]) -> str | None:
     """Returns the newest revision that all leaves go back to, or None."""
     common = set.intersection(*(set(path_of(leaf)) for leaf in leaves))
-    return max(common, key=lambda one: int(one.split("-")[0]), default=None)
+    return max(common, key=number_of) if common else None

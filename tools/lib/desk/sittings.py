@@ -17,7 +17,7 @@ def fill(place: Place) -> None:
 
 def is_focused(desk: Desk, text: str) -> bool:
     """Tells whether the element that has the focus has this text."""
-    return desk.run("return document.activeElement.textContent") == text
+    return bool(desk.run("return document.activeElement.textContent") == text)
 
 
 def check_one_after_the_other(place: Place, desk: Desk) -> None:

@@ -1,4 +1,7 @@
 """Lines on standard error by which a server with --log tells of each 500, and of its end."""
+from __future__ import annotations
+
+import argparse
 import email.utils
 import re
 import shlex
@@ -11,6 +14,7 @@ from lib.checks import compare
 from lib.serve.command_lines import words_of
 from lib.serve.tables import change
 from lib.server import Server, asks, connected, first_revision, message, proxy_lines, reply, request, status_of
+from lib.values import present
 
 LINE = re.compile(r"couchd: (\w{3}, \d\d \w{3} \d{4} \d\d:\d\d:\d\d GMT): (.*)")
 FAULT = reply(500, {"error": "internal_server_error", "reason": "store"})
@@ -19,7 +23,7 @@ END = "ended: all connections are served"
 SECRETS = ["swordfish", "Basic", "Token", "mallory", "revs=true"]
 
 
-def lines_of(what, server, since):
+def lines_of(what: str, server: Server, since: float) -> list[str]:
     """Returns what a server that has ended says of each line behind its time, which lies between the start and now."""
     said = []
     for line in server.said():
@@ -32,7 +36,7 @@ def lines_of(what, server, since):
     return said
 
 
-def compare_lines(what, server, since, wanted):
+def compare_lines(what: str, server: Server, since: float, wanted: list[str]) -> None:
     """Waits for the end of a server, and compares what it said of failures and of its end."""
     compare(f"{what}: the status", 0, server.process.wait(60))
     said = lines_of(what, server, since)
@@ -40,13 +44,13 @@ def compare_lines(what, server, since, wanted):
     compare(f"{what}: what no line may hold", [], [secret for secret in SECRETS if any(secret in line for line in said)])
 
 
-def secretive(method, path, body=None, last=False):
+def secretive(method: str, path: str, body: bytes | None = None, last: bool = False) -> bytes:
     """Returns a request with a body, a query and headers that are nobody else's."""
     lines = [*proxy_lines("root"), "Authorization: Basic swordfish", "X-Mallory: mallory", *(["Connection: close"] if last else [])]
     return message(method, f"{path}?revs=true" if method == "GET" else path, lines, body)
 
 
-def fill(options, file):
+def fill(options: argparse.Namespace, file: str) -> None:
     """Makes a file with a document and a design document whose bodies are then no JSON, and one that is whole."""
     server = Server(options, file, 1)
     with connected(server.port) as made:
@@ -58,7 +62,7 @@ def fill(options, file):
     change(file, "UPDATE revs SET body = '-' WHERE id <> CAST('b' AS BLOB)")
 
 
-def check_damaged(options, file, at_once):
+def check_damaged(options: argparse.Namespace, file: str, at_once: int | None) -> None:
     """Each request for a damaged row has its line, in order; requests with other replies have none, whatever else they hold."""
     what, since = f"damaged rows, {at_once or 1} at once", time.time()
     server = Server(options, file, 2, at_once=at_once, more=["--log"])
@@ -83,7 +87,7 @@ def check_damaged(options, file, at_once):
     compare_lines(what, server, since, [f"{line}: a damaged store" for line in lines] + [END])
 
 
-def check_full(options, file, at_once):
+def check_full(options: argparse.Namespace, file: str, at_once: int | None) -> None:
     """Where the file can't grow, each write that fails has its line."""
     what, since = f"a full disk, {at_once or 1} at once", time.time()
     server = Server(options, file, 1, limit=300_000, at_once=at_once, more=["--log"])
@@ -104,7 +108,7 @@ def check_full(options, file, at_once):
     compare_lines(what, server, since, [*failed, END])
 
 
-def check_memory(options, file, at_once):
+def check_memory(options: argparse.Namespace, file: str, at_once: int | None) -> None:
     """A reply of 503 has no line: memory ran out, and nothing failed."""
     what, since = f"no memory, {at_once or 1} at once", time.time()
     server = Server(options, file, 1, memory=40 << 20, at_once=at_once, more=["--log"])
@@ -115,7 +119,7 @@ def check_memory(options, file, at_once):
     compare_lines(what, server, since, [END])
 
 
-def check_silent(options, file):
+def check_silent(options: argparse.Namespace, file: str) -> None:
     """Without --log nothing is said of a 500, nor of the end."""
     for at_once in (None, 9):
         server = Server(options, file, 1, at_once=at_once)
@@ -124,10 +128,11 @@ def check_silent(options, file):
         server.ended("a damaged row without --log", is_checked=False)
 
 
-def check_ends(options, folder):
+def check_ends(options: argparse.Namespace, folder: str) -> None:
     """The end is told where the port is in use too; a file that isn't opened has no server that could end."""
     with socket.create_server(("127.0.0.1", 0)) as taken:
-        for more in ([], ["--at-once", "9"]):
+        choices: list[list[str]] = [[], ["--at-once", "9"]]
+        for more in choices:
             words = [*words_of(file=f"{folder}/end.db", port=str(taken.getsockname()[1])), *more, "--log"]
             ran = subprocess.run(shlex.split(options.program) + words, stdin=subprocess.DEVNULL, capture_output=True, timeout=options.wait + 60)
             said = [line for line in ran.stderr.decode().splitlines() if "unproved" not in line]
@@ -135,19 +140,19 @@ def check_ends(options, folder):
             compare("a port in use, with --log", (1, b"", ["ended: socket", "couchd: socket"]), (ran.returncode, ran.stdout, ends))
 
 
-def check_unread(options, file):
+def check_unread(options: argparse.Namespace, file: str) -> None:
     """Where nobody reads the lines, or standard error is closed, the server goes on: a line that can't be printed is lost."""
     words = [*shlex.split(options.program), *words_of(file=file, conns="2"), "--log"]
     for what, behind in (("closed", "exec 2>&-; "), ("a full device", "exec 2>/dev/full; ")):
         ran = subprocess.Popen(["sh", "-c", f'{behind}exec "$@"', "sh", *words], stdout=subprocess.PIPE, text=True)
-        port = int(ran.stdout.readline().rsplit(":", 1)[1])
+        port = int(present(ran.stdout).readline().rsplit(":", 1)[1])
         for _ in range(2):
             with connected(port) as made:
                 asks(f"standard error is {what}", made, request("GET", "/db/a"), FAULT)
         compare(f"standard error is {what}: the end", 0, ran.wait(60))
 
 
-def check_killed(options, file):
+def check_killed(options: argparse.Namespace, file: str) -> None:
     """A line is there once its reply is, so a server that is killed has told of all that it answered."""
     since = time.time()
     server = Server(options, file, 9, at_once=9, more=["--log"])
@@ -159,7 +164,7 @@ def check_killed(options, file):
     compare("lines before a kill", ["500 GET /db/a: a damaged store"] * 20, lines_of("before a kill", server, since))
 
 
-def check(options, folder):
+def check(options: argparse.Namespace, folder: str) -> None:
     """Damages a file, fills a disk, and compares the lines."""
     file = f"{folder}/failing.db"
     fill(options, file)

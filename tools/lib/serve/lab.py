@@ -16,7 +16,7 @@ from lib.checks import compare
 from lib.server import ADMIN, SECRET, resets
 
 
-def check_run(options):
+def check_run(options: argparse.Namespace) -> None:
     """A run of a pass in the lab tells the end also where its 10,000th exchange was the last; one exchange more is another run."""
     for count, last in ((9_993, "done"), (9_994, "source")):
         documents = json.dumps([{"_id": f"d{number}"} for number in range(count)], separators=(",", ":"))
@@ -89,7 +89,7 @@ def check_failing_writes(options: argparse.Namespace) -> None:
         compare("a file that may not grow", (1, ["couchd: file"]), (ran.returncode, [line for line in ran.stderr.decode().splitlines() if "unproved" not in line]))
 
 
-def check(options, folder):
+def check(options: argparse.Namespace, folder: str) -> None:
     """Plays two long runs, and scripts on streams that fail."""
     check_failing_reads(options)
     check_endless(options)

@@ -10,7 +10,7 @@ from lib.checks import compare
 from lib.server import WELCOME, Server, asks, connected, first_revision, reply, request, resets, rest_of, text_of
 
 
-def check_requests(options, file):
+def check_requests(options: argparse.Namespace, file: str) -> None:
     """Requests on four connections of one server, one behind another, and the end."""
     server = Server(options, file, 4)
     body = {"v": 1}
@@ -60,7 +60,7 @@ def check_shut(options: argparse.Namespace, file: str) -> None:
     server.ended("a client that shut its side")
 
 
-def check_broken(options, file):
+def check_broken(options: argparse.Namespace, file: str) -> None:
     """Connections that break off don't end the server; each counts."""
     server = Server(options, file, 5)
     connected(server.port).close()
@@ -78,7 +78,7 @@ def check_broken(options, file):
     server.ended("connections that break off")
 
 
-def check_kept(options, file):
+def check_kept(options: argparse.Namespace, file: str) -> None:
     """What was written stands in the file, for the next server."""
     server = Server(options, file, 1)
     with connected(server.port) as made:
@@ -86,7 +86,7 @@ def check_kept(options, file):
     server.ended("a second start")
 
 
-def check_many(options, file):
+def check_many(options: argparse.Namespace, file: str) -> None:
     """New documents are written, read back and deleted, two hundred of them."""
     server = Server(options, file, 1)
     with connected(server.port) as made:
@@ -100,7 +100,7 @@ def check_many(options, file):
     server.ended("two hundred documents")
 
 
-def check(options, folder):
+def check(options: argparse.Namespace, folder: str) -> None:
     """Plays requests on one file, and with a store over it reads there what the server before has written."""
     file = f"{folder}/a.db"
     check_requests(options, file)
