@@ -15,7 +15,7 @@ import struct
 import subprocess
 import threading
 import time
-from collections.abc import Callable, Iterable
+from collections.abc import Callable, Iterable, Mapping
 
 from lib.checks import compare, find
 from lib.settings import token_of
@@ -187,7 +187,12 @@ def limiting(limit: int | None, memory: int | None) -> Callable[[], None] | None
 
 
 class Server:
-    """A running server."""
+    """A server on a file: it is started, asked, stopped or killed, and its file is looked at.
+
+    It listens when it has been made, at the port that it was given or a free one. `limit` bounds the bytes of its
+    files, and `memory` those of its memory; `more` are further words of its command line. `environment` stands in place
+    of this program's. What it prints on standard error is kept for `said`, unless it is `shown` as it comes.
+    """
 
     def __init__(
         self,
@@ -200,6 +205,8 @@ class Server:
         at_once: int | None = None,
         cache: int | None = None,
         more: Iterable[str] = (),
+        environment: Mapping[str, str] | None = None,
+        shown: bool = False,
     ) -> None:
         self.options, self.file = options, file
         self.port = port or options.port
@@ -209,7 +216,13 @@ class Server:
         if cache is not None:
             words += ["--cache", str(cache)]
         words += more
-        self.process = subprocess.Popen(shlex.split(options.program) + words, stdout=subprocess.PIPE, stderr=subprocess.PIPE, preexec_fn=limiting(limit, memory))
+        self.process = subprocess.Popen(
+            shlex.split(options.program) + words,
+            stdout=subprocess.PIPE,
+            stderr=None if shown else subprocess.PIPE,
+            env=environment,
+            preexec_fn=limiting(limit, memory),
+        )
         self.lines: queue.Queue[str] = queue.Queue()
         threading.Thread(target=self.read_lines, daemon=True).start()
         self.line: str | None = None
@@ -234,6 +247,26 @@ class Server:
             time.sleep(0.1)
         raise SystemExit("the server doesn't listen")
 
+    def answer(self, method: str, path: str, body: Json = None, user: str | None = ADMIN) -> tuple[int, Json]:
+        """Asks the server on a connection of its own, and returns the status and the value of the reply."""
+        status, text = answer_of(self.port, request(method, path, body, user))
+        return status, json.loads(text)
+
+    def stop(self, by: int = signal.SIGTERM) -> None:
+        """Sends a signal that ends the server, and waits for its end."""
+        self.process.send_signal(by)
+        self.process.wait(60)
+
+    def kill(self) -> None:
+        self.stop(signal.SIGKILL)
+
+    def pause(self) -> None:
+        """Has the server hang until it is to go on."""
+        self.process.send_signal(signal.SIGSTOP)
+
+    def go_on(self) -> None:
+        self.process.send_signal(signal.SIGCONT)
+
     def ended(self, what: str, is_checked: bool = True) -> None:
         """Compares how the server ended: with status 0, one line, nothing on standard error, and a file that is sound, if that is checked."""
         status = self.process.wait(60)
@@ -253,9 +286,8 @@ class Server:
 
     def stopped(self, what: str) -> None:
         """Stops the server, whatever it does, and compares what `couchd check` says of its file."""
-        self.process.send_signal(signal.SIGCONT)
-        self.process.terminate()
-        self.process.wait(60)
+        self.go_on()
+        self.stop()
         finds_sound(self.options, what, self.file)
 
 
