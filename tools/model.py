@@ -87,7 +87,9 @@ def parts_of(revision: str) -> tuple[int, bytes]:
 
 
 def is_revision(value: Json) -> bool:
-    return isinstance(value, str) and bool(re.fullmatch(r"[1-9][0-9]{0,8}-[A-Za-z0-9]{1,64}", value))
+    """Tells whether a value is the text of a revision, whose number is 2,147,483,647 at most."""
+    found = re.fullmatch(r"([1-9][0-9]{0,9})-[A-Za-z0-9]{1,64}", value) if isinstance(value, str) else None
+    return found is not None and int(found[1]) < 2**31
 
 
 def next_revision(parent: str | None, deleted: bool, body: Object) -> str:
@@ -358,7 +360,8 @@ def part_of(rows: list[Object], query: Query) -> Answer:
 class Database:
     """A database, which is closed when it is new."""
 
-    def __init__(self) -> None:
+    def __init__(self, name: str) -> None:
+        self.name = name
         self.security: Object = {"admins": {"roles": ["_admin"]}, "members": {"roles": ["_admin"]}}
         self.documents: dict[str, Document] = {}
         self.sequence = 0
@@ -392,7 +395,8 @@ class Database:
         """Returns what a rule says of the new document, the old one and the user."""
 
         def holds(new: Object, old: Object | None, user: str | None) -> bool:
-            whole = {"newDoc": new, "oldDoc": old, "secObj": self.security, "userCtx": {"name": user, "roles": roles_of(user)}}
+            caller = {"db": self.name, "name": user, "roles": roles_of(user)}
+            whole = {"newDoc": new, "oldDoc": old, "secObj": self.security, "userCtx": caller}
             return is_true(selector, [whole], whole)
 
         return holds
@@ -795,7 +799,7 @@ class Node:
             if name in self.databases:
                 raise Refusal(412, "file_exists", "The database could not be created, the file already exists.")
             query_of(method, parts, text)
-            self.databases[name] = Database()
+            self.databases[name] = Database(name)
             return 201, {"ok": True}
         if name not in self.databases:
             raise Refusal(404, "not_found", "Database does not exist.")

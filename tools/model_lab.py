@@ -94,7 +94,7 @@ class Script:
         self.nodes[name] = Node()
 
     def play_public(self, name: str, database: str) -> None:
-        made = self.nodes[name].databases[database] = Database()
+        made = self.nodes[name].databases[database] = Database(database)
         made.security = {}
 
     def play_conn(self, name: str, connection: str) -> None:

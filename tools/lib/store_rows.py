@@ -248,7 +248,7 @@ def databases_in(rows: Rows) -> dict[int, tuple[str, Database]]:
     """Returns the databases of rows of which none is wrong but those of indexes, by their numbers, with their names."""
     found = {}
     for number, name, security, sequence in rows["dbs"]:
-        database = Database()
+        database = Database(name.decode())
         database.security, database.sequence = json.loads(security), sequence
         found[number] = name.decode(), database
     histories = histories_in(rows)

@@ -10,7 +10,7 @@ from lib.syncing import Through
 
 @dataclasses.dataclass(frozen=True)
 class Place:
-    """A folder, a file in it that has the documents of --documents, the sequence of that file, and what starts nginx."""
+    """A folder, a file in it with the documents of --documents, the sequence of that file, and what starts nginx."""
 
     options: argparse.Namespace
     room: str
