@@ -10,7 +10,7 @@ import hashlib
 import json
 import re
 from collections.abc import Callable, Iterable
-from typing import Any, NoReturn, Optional
+from typing import NoReturn, Optional
 from urllib.parse import parse_qs, unquote
 
 from lib.keys import Order, is_path, order_of, values_at

@@ -1,12 +1,12 @@
 """What the units couchd-copy@ and couchd-sync@ do with rules that refuse, with all databases, and with what differs, for tools/package_check."""
+import argparse
 import re
-import subprocess
+import shlex
 from typing import Any
 
 from lib.checks import compare
 from lib.place import DATA, Place, asked, started
 from lib.server import ADMIN, SECRET, Server
-from lib.values import present
 
 OWNED = {"newDoc.owner": {"$sameAs": "userCtx.name"}}
 # The same, but for those who copy.
@@ -89,15 +89,14 @@ def leaves_at(port: int, path: str) -> dict[str, list[str]]:
 
 def copied(place: Place, port: int) -> dict[str, tuple[Any, dict[str, list[str]]]]:
     """Returns what the copy has: the security object and the leaves of each database."""
-    words = place.command(["/usr/lib/couchd/couchd", "serve", "--secret", SECRET, "--file", f"{DATA}/copies/{port}.db", "--port", "0", "--conns", "1000", ADMIN])
-    process = subprocess.Popen(words, stdout=subprocess.PIPE, stderr=subprocess.DEVNULL, env=place.environment({}))
-    at = int(present(process.stdout).readline().decode().rsplit(":", 1)[1])
+    *program, file = place.command(["/usr/lib/couchd/couchd", f"{DATA}/copies/{port}.db"])
+    options = argparse.Namespace(program=shlex.join(program), port=0, wait=60)
+    server = Server(options, file, 1000, environment=place.environment({}))
     found = {}
-    for database in made(at, "GET", "/_all_dbs"):
+    for database in made(server.port, "GET", "/_all_dbs"):
         path = f"/{database.replace('+', '%2B')}"
-        found[database] = made(at, "GET", f"{path}/_security"), leaves_at(at, path)
-    process.terminate()
-    process.wait(60)
+        found[database] = made(server.port, "GET", f"{path}/_security"), leaves_at(server.port, path)
+    server.stop()
     return found
 
 

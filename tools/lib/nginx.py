@@ -15,7 +15,6 @@ from lib.settings import token_of
 from lib.values import Json
 
 
-
 class Front:
     """nginx in a room of its own, with users whose passwords are 'pw'. `configuration` says how."""
 

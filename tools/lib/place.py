@@ -16,7 +16,7 @@ import subprocess
 import sys
 import tempfile
 from collections.abc import Iterator
-from typing import Any, Union
+from typing import Union
 
 from lib.checks import compare, finish
 from lib.server import ADMIN, text_of

@@ -14,7 +14,7 @@ import sqlite3
 from collections.abc import Callable, Iterator
 from typing import Any, NamedTuple
 
-from lib.keys import is_path, key_bytes
+from lib.keys import key_bytes
 from lib.server import text_of
 from model import Database, Document, Node, are_indexes
 

@@ -7,18 +7,16 @@ import json
 import os
 import shlex
 import shutil
-import signal
 import socket
 import subprocess
 import tempfile
 import threading
 from collections.abc import Callable, Iterator, Iterable
-from typing import Any, Protocol, Union
+from typing import Protocol, Union
 
 from lib.checks import compare, find
 from lib.server import ADMIN, SECRET, Server, connected, finds_sound, free_port, received, reply_of, request, start_nginx
 from lib.values import Json, Object, present
-
 
 
 # ---- a client
@@ -38,11 +36,6 @@ def serving(
     return Server(options, file, conns, port=port, at_once=at_once)
 
 
-def stopped(server: Server, by: int = signal.SIGTERM) -> None:
-    server.process.send_signal(by)
-    server.process.wait(60)
-
-
 def held(
     options: argparse.Namespace, file: str, database: str = "db"
 ) -> tuple[dict[str, list[str]], list[tuple[str, str]]]:
@@ -55,7 +48,7 @@ def held(
         for one in changes["results"]:
             _, shown = asked(made, "GET", f"/{database}/{one['id']}?open_revs=all&revs=true")
             leaves[one["id"]] = sorted(json.dumps(leaf["ok"], sort_keys=True) for leaf in shown)
-    stopped(server)
+    server.stop()
     finds_sound(options, os.path.basename(file), file)
     return leaves, [(row["id"], row["value"]["rev"]) for row in winners["rows"]]
 
@@ -93,7 +86,7 @@ def fill(options: argparse.Namespace, file: str, count: int) -> int:
             status, told = asked(made, "POST", "/db/_bulk_docs", {"docs": documents, "new_edits": False})
             compare(f"{start}: filled", (201, []), (status, told))
         _, about = asked(made, "GET", "/db")
-    stopped(server)
+    server.stop()
     return int(about["update_seq"])
 
 
@@ -102,7 +95,7 @@ def empty(options: argparse.Namespace, file: str) -> None:
     server = serving(options, file)
     with connected(server.port) as made:
         compare("an empty database", 201, asked(made, "PUT", "/db")[0])
-    stopped(server)
+    server.stop()
 
 
 # ---- passes
@@ -220,7 +213,7 @@ class Relay:
                     behind.sendall(sent)
                     head, body = reply_of(behind)
                 if self.way == "kills" and present(self.is_last)(sent):
-                    stopped(present(self.server), signal.SIGKILL)
+                    present(self.server).kill()
                     self.way = "keeps"
                 if self.way == "tells":
                     head = head.replace(b"\r\n\r\n", b"\r\nConnection: close\r\n\r\n")

@@ -5,7 +5,6 @@ import http.client
 import json
 import os
 import shutil
-import signal
 import tempfile
 import time
 from collections.abc import Iterator
@@ -100,11 +99,11 @@ class Place:
     @contextlib.contextmanager
     def stopped(self) -> Iterator[None]:
         """Has the server's process hang, and go on at the end."""
-        self.server.process.send_signal(signal.SIGSTOP)
+        self.server.pause()
         try:
             yield
         finally:
-            self.server.process.send_signal(signal.SIGCONT)
+            self.server.go_on()
 
     def settle_down(self) -> None:
         """Waits until the server has done what it was sent before, and what a reply could have a page send."""

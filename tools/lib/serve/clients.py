@@ -8,7 +8,7 @@ import tempfile
 
 from lib.checks import compare, find
 from lib.serve.connections import AT_ONCE
-from lib.server import Server, free_port, reply, start_nginx
+from lib.server import Server, free_port, start_nginx
 from lib.values import Reply
 
 

@@ -5,7 +5,6 @@ import argparse
 import email.utils
 import re
 import shlex
-import signal
 import socket
 import subprocess
 import time
@@ -14,7 +13,6 @@ from lib.checks import compare
 from lib.serve.command_lines import words_of
 from lib.serve.tables import change
 from lib.server import Server, asks, connected, first_revision, message, proxy_lines, reply, request, status_of
-from lib.values import present
 
 LINE = re.compile(r"couchd: (\w{3}, \d\d \w{3} \d{4} \d\d:\d\d:\d\d GMT): (.*)")
 FAULT = reply(500, {"error": "internal_server_error", "reason": "store"})
@@ -142,14 +140,13 @@ def check_ends(options: argparse.Namespace, folder: str) -> None:
 
 def check_unread(options: argparse.Namespace, file: str) -> None:
     """Where nobody reads the lines, or standard error is closed, the server goes on: a line that can't be printed is lost."""
-    words = [*shlex.split(options.program), *words_of(file=file, conns="2"), "--log"]
     for what, behind in (("closed", "exec 2>&-; "), ("a full device", "exec 2>/dev/full; ")):
-        ran = subprocess.Popen(["sh", "-c", f'{behind}exec "$@"', "sh", *words], stdout=subprocess.PIPE, text=True)
-        port = int(present(ran.stdout).readline().rsplit(":", 1)[1])
+        program = shlex.join(["sh", "-c", f'{behind}exec "$@"', "sh", *shlex.split(options.program)])
+        server = Server(argparse.Namespace(**{**vars(options), "program": program}), file, 2, more=["--log"])
         for _ in range(2):
-            with connected(port) as made:
+            with connected(server.port) as made:
                 asks(f"standard error is {what}", made, request("GET", "/db/a"), FAULT)
-        compare(f"standard error is {what}: the end", 0, ran.wait(60))
+        compare(f"standard error is {what}: the end", 0, server.process.wait(60))
 
 
 def check_killed(options: argparse.Namespace, file: str) -> None:
@@ -159,8 +156,7 @@ def check_killed(options: argparse.Namespace, file: str) -> None:
     with connected(server.port) as made:
         for _ in range(20):
             asks("before a kill", made, request("GET", "/db/a"), FAULT)
-        server.process.send_signal(signal.SIGKILL)
-    server.process.wait(60)
+        server.kill()
     compare("lines before a kill", ["500 GET /db/a: a damaged store"] * 20, lines_of("before a kill", server, since))
 
 

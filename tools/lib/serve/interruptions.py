@@ -12,9 +12,9 @@ from lib.server import WELCOME, Server, asks, connected, first_revision, receive
 
 def pause(server: Server) -> None:
     """Stops the server's process, and lets it go on."""
-    server.process.send_signal(signal.SIGSTOP)
+    server.pause()
     time.sleep(0.2)
-    server.process.send_signal(signal.SIGCONT)
+    server.go_on()
     time.sleep(0.2)
 
 

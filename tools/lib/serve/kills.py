@@ -67,8 +67,7 @@ def check_killed_among_writers(options: argparse.Namespace, folder: str) -> None
         answered: list[str] = []
         threads = start_all([functools.partial(write_on, server.port, client, answered) for client in range(50)])
         time.sleep(0.5 + moment * 0.3)
-        server.process.kill()
-        server.process.wait(60)
+        server.kill()
         for thread in threads:
             thread.join(60)
         finds_sound(options, f"killed among writers, {moment}", file)

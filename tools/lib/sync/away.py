@@ -2,7 +2,6 @@
 from __future__ import annotations
 
 import contextlib
-import signal
 import socket
 import subprocess
 import threading
@@ -11,7 +10,7 @@ import time
 from lib.checks import compare
 from lib.server import finds_sound
 from lib.sync.place import Check, Place
-from lib.syncing import Side, copied, empty, held, peer, report, serving, stopped, synced, words_of
+from lib.syncing import copied, empty, held, peer, report, serving, synced, words_of
 from lib.values import present
 
 
@@ -30,21 +29,21 @@ def check_away(place: Place) -> None:
         time.sleep(0.2)
         kills = 0
         while running.poll() is None and kills < 3:
-            stopped(server, signal.SIGKILL)
+            server.kill()
             kills += 1
             time.sleep(3)
             server = serving(options, served, port=server.port, at_once=8)
             time.sleep(1)
         line = present(running.stdout).read().decode()
         compare(f"a {side} that is away: {line}", (0, True), (running.wait(300), kills > 0))
-        stopped(server)
+        server.stop()
         finds_sound(options, f"a {side} that is away", served)
         compare(f"a {side} that is away: what both hold", held(options, source), held(options, other if side == "source" else served))
 
 
 def check_slow(place: Place) -> None:
     """A server that sends a byte each second takes as long as the patience, and not longer."""
-    options, room, source = place.options, place.room, place.source
+    options, source = place.options, place.source
     ends = threading.Event()
 
     def answer(listener: socket.socket, made: socket.socket) -> None:

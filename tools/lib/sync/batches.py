@@ -8,7 +8,7 @@ import os
 from lib.checks import compare
 from lib.server import connected, first_revision, text_of
 from lib.sync.place import Check, Place
-from lib.syncing import DONE, asked, empty, held, outcome, report, serving, stopped, synced
+from lib.syncing import DONE, asked, empty, held, outcome, report, serving, synced
 
 
 def long_documents(options: argparse.Namespace, room: str) -> str:
@@ -22,7 +22,7 @@ def long_documents(options: argparse.Namespace, room: str) -> str:
             compare("short documents", 201, asked(made, "POST", "/db/_bulk_docs", {"docs": documents})[0])
         for number in range(3):
             compare("a long document", 201, asked(made, "PUT", f"/db/m{number}", {"text": "y" * 1500000})[0])
-    stopped(server)
+    server.stop()
     return file
 
 
@@ -41,8 +41,8 @@ def check_long(place: Place) -> None:
         told = json.loads(line) if line.startswith("{") else line
         compare(f"long batches, {what}", (0, {"last_seq": 503, "refused": [], "sent": 503, "start_seq": 0}, []), (status, told, said))
         compare(f"long batches, {what}: once more", (0, report(503, 0, 503), []), synced(options, "L2", *ports))
-        stopped(first)
-        stopped(second)
+        first.stop()
+        second.stop()
         compare(f"long batches, {what}: what both hold", wanted, held(options, target))
         for file in (target, f"{target}-wal"):
             os.remove(file)
@@ -60,7 +60,7 @@ def check_long(place: Place) -> None:
         with connected(server.port) as made:
             compare("what came before it", 500, asked(made, "GET", "/db")[1]["doc_count"])
         compare("it comes where it may", DONE, outcome(synced(options, "L5", source, server.port)))
-        stopped(server)
+        server.stop()
         compare("a document that alone was too long: what both hold", wanted, held(options, target))
 
 
@@ -78,7 +78,7 @@ def check_leaves(place: Place) -> None:
             target = f"{room}/leaves-{what.split()[0]}.db"
             compare(f"380 leaves {what}", DONE, outcome(synced(options, "V1", port, target, more=["--create"])))
             compare(f"380 leaves {what}: how many came", 380, len(held(options, target)[0]["many"]))
-    stopped(server)
+    server.stop()
 
 
 CHECKS: dict[str, Check] = {"long": check_long, "leaves": check_leaves}

@@ -7,7 +7,7 @@ import os
 from lib.checks import compare
 from lib.server import all_of, connected, modes_of
 from lib.sync.place import Check, Place
-from lib.syncing import asked, empty, held, report, serving, stopped, synced
+from lib.syncing import asked, empty, held, report, serving, synced
 
 
 def check_files(place: Place) -> None:
@@ -24,7 +24,7 @@ def check_files(place: Place) -> None:
     with connected(server.port) as made:
         asked(made, "PUT", "/db")
         asked(made, "PUT", "/db/bad", {"bad": 1})
-    stopped(server)
+    server.stop()
     status, line, _ = synced(options, "S3", other, target)
     told = json.loads(line)
     compare("a document that is refused", (3, 1, ["bad"]), (status, told["sent"], [one["id"] for one in told["refused"]]))
@@ -32,7 +32,7 @@ def check_files(place: Place) -> None:
     server = serving(options, other)
     with connected(server.port) as made:
         asked(made, "DELETE", "/db")
-    stopped(server)
+    server.stop()
     status, line, _ = synced(options, "S4", other, target)
     compare("a source that is gone", absent, [line, status])
     compare("a file that is none", (1, "", ["couchd: file"]), synced(options, "S5", room, target))

@@ -7,7 +7,7 @@ import signal
 from lib.checks import compare
 from lib.server import Server, finds_sound
 from lib.sync.place import Check, Place
-from lib.syncing import DONE, Ran, Relay, copied, empty, held, outcome, serving, stopped, synced
+from lib.syncing import DONE, Ran, Relay, copied, empty, held, outcome, serving, synced
 
 
 def check_killed(place: Place) -> None:
@@ -24,7 +24,7 @@ def check_killed(place: Place) -> None:
     server = serving(options, target, port=server.port)
     compare("the rest comes by the next pass", DONE, outcome(synced(options, "S2", source, relay.port)))
     relay.listener.close()
-    stopped(server)
+    server.stop()
     compare("after a kill: what both hold", held(options, source), held(options, target))
 
 
@@ -50,7 +50,7 @@ def check_killed_source(place: Place) -> None:
     server = serving(options, served, port=server.port)
     compare("the rest comes by the next pull", DONE, outcome(synced(options, "S2", relay.port, target)))
     relay.listener.close()
-    stopped(server)
+    server.stop()
     compare("after a kill of the source: what both hold", held(options, served), held(options, target))
 
 

@@ -7,8 +7,8 @@ import socket
 from lib.checks import compare
 from lib.server import ADMIN, connected, reply_of, request
 from lib.sync.place import Check, Place
-from lib.syncing import DONE, asked, held, on_terminal, outcome, serving, stopped, synced
-from lib.values import Json, Object
+from lib.syncing import DONE, asked, held, on_terminal, outcome, serving, synced
+from lib.values import Json
 
 OWNED = {"newDoc.owner": {"$sameAs": "userCtx.name"}}
 MENDED = {"$or": [{"userCtx.roles": {"$all": ["_admin"]}}, OWNED]}
@@ -49,7 +49,7 @@ def check_nights(place: Place) -> None:
         compare("from the start, with the mended rule", (0, 3, 0, []), (status, told["sent"], told["start_seq"], told["refused"]))
         status, line, said = synced(options, "N7", server.port, target)
         compare("the checkpoint of a pass from the start", (0, told["last_seq"], 0), (status, json.loads(line)["start_seq"], json.loads(line)["sent"]))
-    stopped(server)
+    server.stop()
     compare("all four documents", ["_design/owner", "a", "ann", "bob", "eve"], [id for id, _ in held(options, target)[1]])
     compare("from the start: what both hold", held(options, source), held(options, target))
 

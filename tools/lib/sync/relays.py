@@ -3,7 +3,7 @@ from __future__ import annotations
 
 from lib.checks import compare
 from lib.sync.place import Check, Place
-from lib.syncing import DONE, Relay, empty, fill, held, outcome, serving, stopped, synced
+from lib.syncing import DONE, Relay, empty, fill, held, outcome, serving, synced
 
 
 def check_relays(place: Place) -> None:
@@ -25,7 +25,7 @@ def check_relays(place: Place) -> None:
             compare("a relay that drops: more than one connection", True, relay.count > 1)
         relay.listener.close()
         compare(f"a relay that {way}: what both hold", wanted, held(options, target))
-    stopped(server)
+    server.stop()
     for way in ("keeps", "drops"):
         target = f"{room}/pushed-{way}.db"
         empty(options, target)
@@ -33,7 +33,7 @@ def check_relays(place: Place) -> None:
         relay = Relay(server.port, way)
         compare(f"a relay that {way}: a push", DONE, outcome(synced(options, way, source, relay.port)))
         relay.listener.close()
-        stopped(server)
+        server.stop()
         compare(f"a relay that {way}: what both hold after a push", wanted, held(options, target))
 
 

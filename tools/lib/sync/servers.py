@@ -7,7 +7,7 @@ import time
 from lib.checks import compare
 from lib.server import connected
 from lib.sync.place import Check, Place, through_nginx
-from lib.syncing import DONE, Through, asked, empty, held, outcome, report, serving, stopped, synced
+from lib.syncing import DONE, Through, asked, empty, held, outcome, report, serving, synced
 
 
 def check_address(place: Place, through: Through | None = None) -> None:
@@ -21,7 +21,7 @@ def check_address(place: Place, through: Through | None = None) -> None:
     status, line, said = synced(options, "S1", source, port)
     compare(what, (0, last, []), (status, json.loads(line.removeprefix("stopped "))["last_seq"] if status == 0 else line, said))
     compare(f"{what} once more", (0, report(last, 0, last), []), synced(options, "S2", source, port))
-    stopped(server)
+    server.stop()
     compare(f"{what}: what both hold", held(options, source), held(options, target))
 
 
@@ -37,13 +37,13 @@ def check_pull(place: Place, through: Through | None = None) -> None:
     compare(what, (0, last, []), (status, json.loads(line)["last_seq"] if status == 0 else line, said))
     compare(f"{what} once more", (0, report(last, 0, last), []), synced(options, "S3", port, target, more=["--create"]))
     compare(f"{what}: nobody's", (4, "stopped status 401 " + report(0, 0, 0), []), synced(options, "S4", port, target, user=None))
-    stopped(server)
+    server.stop()
     compare(f"{what}: what both hold", held(options, source), held(options, target))
     server = serving(options, target)
     with connected(server.port) as made:
         asked(made, "PUT", "/new")
         compare(f"{what}: who may read it", asked(made, "GET", "/new/_security"), asked(made, "GET", "/db/_security"))
-    stopped(server)
+    server.stop()
 
 
 def check_created(place: Place) -> None:
@@ -57,13 +57,13 @@ def check_created(place: Place) -> None:
         asked(made, "PUT", "/db/_security", security)
         asked(made, "PUT", "/db/own", {"v": 1})
         _, wanted = asked(made, "GET", "/db/_security")
-    stopped(server)
+    server.stop()
     compare("a database that is there", DONE, outcome(synced(options, "S1", source, target, more=["--create"])))
     server = serving(options, target)
     with connected(server.port) as made:
         compare("a database that is there: who may read it", (200, wanted), asked(made, "GET", "/db/_security"))
         compare("a database that is there: what it held", 200, asked(made, "GET", "/db/own")[0])
-    stopped(server)
+    server.stop()
     compare("a name of no database", (4, "stopped status 400 " + report(0, 0, 0), []), synced(options, "S2", source, target, more=["--create"], databases=("db", "No")))
 
 
@@ -82,8 +82,8 @@ def check_servers(place: Place) -> None:
     compare("two databases of a server", DONE, outcome(synced(options, "S3", second.port, second.port, databases=("db", "copy"))))
     # Two connections that wait for each other would take half a minute for each request.
     compare("two databases of a server: in time", True, time.monotonic() - begun < 10 + options.documents / 20)
-    stopped(first)
-    stopped(second)
+    first.stop()
+    second.stop()
     wanted = held(options, source)
     compare("server to server: what both hold", wanted, held(options, target))
     compare("two databases of a server: what both hold", wanted, held(options, target, "copy"))

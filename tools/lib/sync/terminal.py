@@ -10,7 +10,7 @@ from typing import Optional
 from lib.checks import compare
 from lib.server import connected
 from lib.sync.place import Check, Place
-from lib.syncing import DONE, Relay, Side, asked, copied, on_terminal, outcome, serving, stopped, synced
+from lib.syncing import DONE, Relay, Side, asked, copied, on_terminal, outcome, serving, synced
 from lib.values import Json
 
 SHOWN = re.compile("\r(\\d+) documents sent, sequence (\\d+)(, about (\\d+) changes( and (\\d+ s|\\d+ min|\\d+ h \\d+ min))? left)?\x1b\\[K")
@@ -72,8 +72,8 @@ def check_shown(place: Place) -> None:
     compare("a source that hides how far it goes", (0, last, []), (status, told["last_seq"], told["refused"]))
     compare("a source that hides how far it goes: what is shown", [(sent, sequence, None, False) for sent, sequence, *_ in rows], rows)
     relay.listener.close()
-    stopped(served)
-    stopped(into)
+    served.stop()
+    into.stop()
 
 
 CHECKS: dict[str, Check] = {"shown": check_shown}

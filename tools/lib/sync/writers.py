@@ -7,7 +7,7 @@ import time
 from lib.checks import compare
 from lib.server import connected
 from lib.sync.place import Check, Place
-from lib.syncing import DONE, asked, empty, held, outcome, serving, stopped, synced
+from lib.syncing import DONE, asked, empty, held, outcome, serving, synced
 
 
 class Writer(threading.Thread):
@@ -44,7 +44,7 @@ def check_both_ways(place: Place) -> None:
             asked(made, "PUT", "/db/both", {"from": text})
             documents = [{"_id": f"{text}{number}", "v": number} for number in range(min(600, options.documents))]
             compare(f"{text}: filled", 201, asked(made, "POST", "/db/_bulk_docs", {"docs": documents})[0])
-        stopped(server)
+        server.stop()
     server = serving(options, office, at_once=8)
     writer = Writer(server.port, "late")
     writer.start()
@@ -55,7 +55,7 @@ def check_both_ways(place: Place) -> None:
     compare("the writes of others were answered", True, len(writer.answered) > 0)
     compare("the last push", DONE, outcome(synced(options, "P", device, server.port)))
     compare("the last pull", DONE, outcome(synced(options, "Q", server.port, device)))
-    stopped(server)
+    server.stop()
     leaves, winners = held(options, office)
     compare("both ways: what both hold", (leaves, winners), held(options, device))
     compare("both ways: two leaves of the document that both changed", 2, len(leaves["both"]))
@@ -80,7 +80,7 @@ def check_backup(place: Place) -> None:
         compare(f"backup {turn}: there was something", True, len(wanted) > 0)
     for writer in writers:
         writer.stop()
-    stopped(server)
+    server.stop()
 
 
 CHECKS: dict[str, Check] = {"both ways": check_both_ways, "backup": check_backup}
