@@ -40,6 +40,7 @@ class Served(Server):
         self.connect()
 
     def connect(self) -> None:
+        """Opens the connection, for what follows."""
         self.socket = socket.create_connection(("127.0.0.1", self.port))
         self.socket.setsockopt(socket.IPPROTO_TCP, socket.TCP_NODELAY, 1)
         self.rest = b""
@@ -68,6 +69,7 @@ class Served(Server):
             expect((status, body), 201)
 
     def take(self) -> None:
+        """Takes in what has come of replies."""
         piece = self.socket.recv(1 << 16)
         if not piece:
             raise SystemExit("the server closed the connection")
@@ -105,6 +107,7 @@ class Tables:
         self.sequence = 0
 
     def connect(self, file: str) -> None:
+        """Opens the file as the server does."""
         self.conn = sqlite3.connect(file, isolation_level=None)
         self.conn.execute("PRAGMA journal_mode=WAL")
         self.conn.execute("PRAGMA synchronous=FULL")
@@ -157,6 +160,7 @@ class Tables:
 
 
 def expect(answer: Reply, status: int) -> None:
+    """Ends the bench where a reply has another status."""
     if answer[0] != status:
         raise SystemExit(f"status {answer[0]} in place of {status}: {answer[1][:200]!r}")
 

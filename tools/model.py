@@ -153,6 +153,7 @@ def has_form(name: Json, index: Json, is_field: Callable[[Json], bool]) -> bool:
 
 
 def are_indexes(value: Json) -> bool:
+    """Tells whether a value declares indexes, each of its form."""
     return isinstance(value, dict) and all(has_form(name, index, is_path) for name, index in value.items())
 
 
@@ -221,6 +222,7 @@ DEEPEST = 32
 
 
 def is_whole(value: Json) -> bool:
+    """Tells whether a value is a number; a truth is none."""
     return isinstance(value, int) and not isinstance(value, bool)
 
 
@@ -371,6 +373,7 @@ class Database:
     # ---- who may do what
 
     def names(self, user: str | None, part: str) -> bool:
+        """Tells whether a part of the security object names a user, or one of the user's roles."""
         named = self.security.get(part, {})
         return user is not None and (user in named.get("names", []) or any(role in named.get("roles", []) for role in roles_of(user)))
 
@@ -404,11 +407,13 @@ class Database:
     # ---- writes
 
     def add(self, identifier: str, path: list[str], deleted: bool, body: Object) -> None:
+        """Takes a write in, at the next sequence."""
         self.documents.setdefault(identifier, Document()).add(path, deleted, body)
         self.sequence += 1
         self.sequences[identifier] = self.sequence
 
     def deny_design(self, user: str | None, identifier: str) -> None:
+        """Refuses a design document of who is no admin of the database."""
         if identifier.startswith("_design/") and not self.is_admin(user):
             raise denial(user, "You are not a db or server admin.", "design_document")
 
@@ -480,6 +485,7 @@ class Database:
             return {**refusal.value, **named}
 
     def bulk(self, user: str | None, value: Object) -> Answer:
+        """Takes several documents in, by the rules that are there before them."""
         rules = self.rules()
         told = [self.element(rules, user, one, value.get("new_edits", True)) for one in value["docs"]]
         return 201, [one for one in told if one is not None]
@@ -487,14 +493,17 @@ class Database:
     # ---- lists
 
     def information(self, name: str) -> Answer:
+        """Returns the counts of a database, and its sequence."""
         deleted = sum(document.is_deleted() for document in self.documents.values())
         return 200, {"db_name": name, "doc_count": len(self.documents) - deleted, "doc_del_count": deleted, "update_seq": self.sequence}
 
     def all_docs(self, query: Query) -> Answer:
+        """Lists the documents by their ids."""
         there = sorted((one for one, document in self.documents.items() if not document.is_deleted()), key=str.encode)
         return part_of([{"id": one, "key": one, "value": {"rev": self.documents[one].winner()}} for one in there], query)
 
     def changes(self, query: Query) -> Answer:
+        """Lists the documents by their latest sequences."""
         since = int(query.get("since", 0))
         results: list[Object] = []
         for identifier in sorted(self.sequences, key=self.sequences.__getitem__):
@@ -557,6 +566,7 @@ class Database:
         return 200, told
 
     def differences(self, value: Object) -> Answer:
+        """Returns which of these revisions aren't known."""
         lacking = {}
         for identifier, revisions in value.items():
             known = self.documents.get(identifier, Document()).parents
@@ -568,6 +578,7 @@ class Database:
     # ---- single documents
 
     def read(self, identifier: str, query: Query) -> Answer:
+        """Returns a document, or with `open_revs` its revisions."""
         document = self.documents.get(identifier, Document())
         if "open_revs" in query:
             asked = document.leaves() if query["open_revs"] == "all" else json.loads(query["open_revs"])
@@ -581,6 +592,7 @@ class Database:
         return 200, document.shown(identifier, revision or document.winner(), paths)
 
     def write(self, user: str | None, identifier: str, query: Query, value: Object) -> Answer:
+        """Takes an edit in that a PUT asks for."""
         revision, deleted, body = sent_by(identifier, value)
         asked = query.get("rev")
         if asked and revision and asked != revision:
@@ -589,6 +601,7 @@ class Database:
         return 201, {"id": identifier, "ok": True, "rev": made}
 
     def delete(self, user: str | None, identifier: str, query: Query) -> Answer:
+        """Takes a deletion in, which names the revision that it follows."""
         self.deny_design(user, identifier)
         if "rev" not in query:
             raise Refusal(*CONFLICT)
@@ -598,12 +611,14 @@ class Database:
     # ---- local documents
 
     def read_local(self, name: str) -> Answer:
+        """Returns a local document."""
         if name not in self.locals:
             raise Refusal(*MISSING)
         number, body = self.locals[name]
         return 200, {**body, "_id": f"_local/{name}", "_rev": f"0-{number}"}
 
     def write_local(self, name: str, value: Object) -> Answer:
+        """Takes a local document in, whose revisions are numbers."""
         number, _ = self.locals.get(name, (0, None))
         if value.get("_rev") != (f"0-{number}" if number else None):
             raise Refusal(*CONFLICT)
@@ -747,6 +762,7 @@ class Node:
         return status, text_of(value)
 
     def work(self, user: str | None, method: str, parts: list[str], text: str, body: bytes | None) -> Answer:
+        """Does what a request asks for, and returns its status and value; a `Refusal` is raised where that isn't done."""
         name = parts[0]
         if name == "_all_dbs":
             return self.list_databases(user, parts, text)
@@ -785,6 +801,7 @@ class Node:
         return database.write(user, identifier, query, value) if method == "PUT" else database.delete(user, identifier, query)
 
     def list_databases(self, user: str | None, parts: list[str], text: str) -> Answer:
+        """Lists the databases, for server admins."""
         if user != ADMIN:
             raise denial(user, "You are not a server admin.", "server_admin")
         query_of("GET", parts, text)
@@ -808,6 +825,7 @@ class Node:
         return 200, {"ok": True}
 
     def work_on_security(self, database: Database, user: str | None, method: str, value: Json) -> Answer:
+        """Returns the security object, or writes it for an admin of the database."""
         if method == "PUT":
             if not database.is_admin(user):
                 raise denial(user, "You are not a db or server admin.", "db_admin")

@@ -38,10 +38,12 @@ Came = Optional[tuple[int, Json]]
 
 
 def is_count(value: Json) -> bool:
+    """Tells whether a value is a sequence."""
     return isinstance(value, int) and not isinstance(value, bool) and 0 <= value <= GREATEST
 
 
 def is_session(value: Json) -> bool:
+    """Tells whether a value is an entry of a checkpoint's history."""
     return isinstance(value, dict) and isinstance(value.get("session_id"), str) and is_count(value.get("recorded_seq"))
 
 
@@ -117,7 +119,7 @@ class Pass:
         self.stored[side] = yield from self.ask(side, "GET", self.local, (200, 404))
 
     def is_written(self, side: str) -> bool:
-        """Whether the checkpoint that a side has is that of this pass."""
+        """Tells whether the checkpoint that a side has is that of this pass."""
         found = checkpoint_in(self.stored[side])
         return found is not None and (found["session_id"], found["source_last_seq"]) == (self.session, self.report["last_seq"])
 
@@ -183,6 +185,7 @@ class Pass:
     # ---- exchanges
 
     def line(self, status: int | str) -> str:
+        """Returns the line of the exchange that is due."""
         side, method, path, _ = self.due
         return f"{self.name} {side} {method} {path} {status}"
 
@@ -196,6 +199,7 @@ class Pass:
             self.finish(f"stopped {why}")
 
     def finish(self, how: str) -> None:
+        """Ends the pass, and keeps its last line."""
         self.end = f"{self.name} {how} {text_of(self.report).decode()}"
 
     def take(self, status: int, body: bytes) -> str:

@@ -122,6 +122,7 @@ def check_both(place: Place, port: int, settings: dict[str, str], office: Server
 
 
 def check_copies(place: Place, port: int, settings: dict[str, str], office: Server) -> None:
+    """Copies databases between two servers, and into files, by the units."""
     check_nights(place, port, settings)
     check_all(place, port, settings)
     made(port, "DELETE", "/owned")

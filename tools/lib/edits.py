@@ -139,7 +139,7 @@ class Edit:
 
     @property
     def proofs(self) -> set[str]:
-        """The proofs that the edit breaks, which no other edit of its round may break too."""
+        """Returns the proofs that the edit breaks, which no other edit of its round may break too."""
         return {function.proof for function in self.functions}
 
 

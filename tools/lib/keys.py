@@ -21,6 +21,7 @@ def names_of(path: str) -> list[str]:
 
 
 def is_path(value: Json) -> TypeGuard[str]:
+    """Tells whether a value is the text of a path."""
     return isinstance(value, str) and 1 <= len(value.encode()) <= 256 and all(names_of(value))
 
 
@@ -58,6 +59,7 @@ def order_of(value: Json) -> Order:
 
 
 def text_bytes(text: bytes) -> bytes:
+    """Returns the key of a text, of which no other key is a prefix."""
     return b"\x05" + text.replace(b"\x00", b"\x00\xff") + b"\x00\x00"
 
 

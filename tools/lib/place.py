@@ -115,6 +115,7 @@ Place = Union[Overlay, Folder]
 
 
 def mount(*words: str) -> None:
+    """Mounts by these words, or fails."""
     subprocess.run(["mount", *words], check=True, capture_output=True)
 
 

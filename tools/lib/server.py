@@ -102,6 +102,7 @@ WELCOME = reply(200, {"couchdb": "Welcome", "version": "3-profile"})
 
 
 def connected(port: int) -> socket.socket:
+    """Opens a connection to a server."""
     made = socket.create_connection(("127.0.0.1", port), 30)
     made.settimeout(60)
     return made
@@ -119,6 +120,7 @@ def received(made: socket.socket, count: int) -> bytes:
 
 
 def rest_of(made: socket.socket) -> bytes:
+    """Returns the bytes that come until the connection ends."""
     parts = b""
     while part := made.recv(65536):
         parts += part
@@ -233,6 +235,7 @@ class Server:
             self.port = int(self.line.rsplit(":", 1)[1])
 
     def read_lines(self) -> None:
+        """Keeps the lines that the server prints, and an empty one once it has ended."""
         for line in present(self.process.stdout):
             self.lines.put(line.decode())
         self.lines.put("")

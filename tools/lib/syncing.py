@@ -171,6 +171,7 @@ DONE: tuple[int, list[Object], list[str]] = (0, [], [])
 
 
 def report(last_seq: int, sent: int, start_seq: int, refused: str = "[]") -> str:
+    """Returns the line of a pass that is done."""
     return f'{{"last_seq":{last_seq},"refused":{refused},"sent":{sent},"start_seq":{start_seq}}}\n'
 
 
@@ -201,6 +202,7 @@ class Relay:
             threading.Thread(target=self.pass_on, args=(made,), daemon=True).start()
 
     def pass_on(self, made: socket.socket) -> None:
+        """Passes on the requests of a connection, in its way."""
         with made, contextlib.suppress(OSError):
             for number in range(1000000):
                 sent = request_of(made)
@@ -240,7 +242,7 @@ def request_of(made: socket.socket) -> bytes:
 
 @contextlib.contextmanager
 def peer(answer: Answers) -> Iterator[int]:
-    """A server that has a function answer each connection, which it may close."""
+    """Serves as a peer that has a function answer each connection, which it may close."""
     listener = socket.create_server(("127.0.0.1", 0))
 
     def serve() -> None:

@@ -31,7 +31,7 @@ def bodies(tag: str) -> dict[str, dict[str, Any]]:
 
 
 def check_large(place: Place, desk: Desk) -> None:
-    """A document of 1 MB is shown and edited within five seconds; parts of it are shown first, and others after a press."""
+    """Opens and edits a document of 1 MB within five seconds: parts are shown first, and others after a press."""
     for name, body in bodies("a").items():
         size = len(json.dumps(body, separators=(",", ":")))
         compare(f"large: {name} has nearly 1 MB", True, 800_000 < size < 1_000_000)
@@ -49,7 +49,7 @@ def check_large(place: Place, desk: Desk) -> None:
 
 
 def check_large_settled(place: Place, desk: Desk) -> None:
-    """Two versions of 1 MB each are asked for before they are fetched, and can then be settled within ten seconds."""
+    """Settles two versions of 1 MB each within ten seconds, which are asked for before they are fetched."""
     versions = {tag: bodies(tag) for tag in "rab"}
     for name in versions["r"]:
         leaves = [revision(f"{tag}2", "r1", **versions[tag][name]) for tag in "ab"]

@@ -10,7 +10,7 @@ from lib.desk.scripts import CONTRAST, OVERLAPS, UNLABELLED
 
 
 def check_keys(place: Place, desk: Desk) -> None:
-    """A conflict is settled by keys alone."""
+    """Settles a conflict by keys alone."""
     conflicting(place, "keys")
     desk.go()
     for text in ["notes", "keys"]:
@@ -31,7 +31,7 @@ PLACES += ["notes/find", "notes/views", "notes/access", "notes/local/phone"]
 
 
 def check_looks(place: Place, desk: Desk) -> None:
-    """Each view: labels, both colour schemes, and nothing over another at 1200 and at 400 pixels."""
+    """Looks at each view: labels, both colour schemes, and nothing over another at 1200 and at 400 pixels."""
     for name in PLACES:
         words = name.split("/") if name else []
         desk.go(*words)

@@ -43,7 +43,7 @@ def press_member(desk: Desk, label: str) -> None:
 
 
 def check_members(place: Place, desk: Desk) -> None:
-    """Each differing member is listed with what each side did to it, and is taken from either side."""
+    """Takes each differing member from either side; it is listed with what each side did to it."""
     place.push("members", *[{"_id": "tree", **one} for one in [revision("r1", **BASE), revision("b2", "r1", **LEFT), revision("a2", "r1", **RIGHT)]])
     desk.go("members", "settle", "tree")
     proposed = {**RIGHT, "address": LEFT["address"]}
@@ -80,7 +80,7 @@ def check_members_typed(place: Place, desk: Desk) -> None:
 
 
 def check_without_ancestor(place: Place, desk: Desk) -> None:
-    """Without a common ancestor the marks are against the winner."""
+    """Merges without a common ancestor: the marks are against the winner."""
     place.push("members", {"_id": "rootless", **revision("a1", day="Friday", x=1)}, {"_id": "rootless", **revision("b1", day="Sunday", y=2)})
     desk.go("members", "settle", "rootless")
     desk.find("p.proposal", "Marked are changes to the winner 1-b1")
@@ -92,7 +92,7 @@ def check_without_ancestor(place: Place, desk: Desk) -> None:
 
 
 def check_thirty(place: Place, desk: Desk) -> None:
-    """Of thirty versions two are compared at a time, which lists choose; all others go."""
+    """Chooses from lists which two of thirty versions are compared; all others go."""
     place.push("members", *[{"_id": "thirty", **revision(f"v{number:02}", n=number, same=1)} for number in range(30)])
     desk.go("members", "settle", "thirty")
     sides = "return [...document.querySelectorAll('section.side h3')].map(one => one.textContent)"

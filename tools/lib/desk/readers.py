@@ -21,7 +21,7 @@ def nodes_of(desk: Desk) -> list[dict[str, Any]]:
 
 
 def check_names(what: str, desk: Desk) -> None:
-    """Each control and each part has a name; controls of one name do the same; the heading is there."""
+    """Compares names: each control and part has one, controls of one name do the same, and the heading is there."""
     nodes = nodes_of(desk)
     compare(f"{what}: nodes without a name", [], [node["role"] for node in nodes if node["role"] in CONTROLS + GROUPS and not node["name"]])
     compare(f"{what}: there is something to press", True, any(node["role"] == "link" for node in nodes))
@@ -34,7 +34,7 @@ def check_names(what: str, desk: Desk) -> None:
 
 
 def check_order(what: str, desk: Desk) -> None:
-    """The key that goes on leads to each control, downwards and to the right, and shows where it is."""
+    """Presses the key that goes on: it leads to each control, downwards and to the right, and shows where it is."""
     wanted = desk.run(REACHABLE)
     desk.run("document.activeElement.blur(); document.querySelector('h1 a').focus()")
     seen = [desk.run(FOCUSED)]
@@ -51,7 +51,7 @@ def check_order(what: str, desk: Desk) -> None:
 
 
 def check_views(place: Place, desk: Desk) -> None:
-    """Each view: names, the order of focus, and signs beside colours."""
+    """Looks at each view: names, the order of focus, and signs beside colours."""
     place.made("PUT", "/readers")
     inner = {name: {"city": name, "street": {"no": name}} for name in ["r1", "a2", "b2"]}
     place.push("readers", {"_id": "nested", **revision("r1", address=inner["r1"])}, *[{"_id": "nested", **revision(name, "r1", address=inner[name], v=name)} for name in ["a2", "b2"]])
@@ -72,7 +72,7 @@ def check_views(place: Place, desk: Desk) -> None:
 
 
 def check_moments(place: Place, desk: Desk) -> None:
-    """What is there for a moment: the next one, the question before a view is left, and the sign of waiting."""
+    """Looks at what is there for a moment: the next one, the question before a view is left, the sign of waiting."""
     for name in ["ask", "asked"]:
         conflicting(place, name, "left")
     desk.go("left")

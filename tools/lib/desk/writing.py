@@ -8,7 +8,7 @@ from lib.desk.place import GREATEST, LEAST, Place
 
 
 def check_writing(place: Place, desk: Desk) -> None:
-    """New and edited documents; numbers at both ends; deleted, and written again."""
+    """Writes new and edited documents, with numbers at both ends; deletes one, and writes it again."""
     desk.go("notes", "new")
     desk.find("input").type("fresh")
     desk.retype("textarea", f'{{"big": {GREATEST}, "small": {LEAST}, "deep": {{"__proto__": {{"x": 1}}, "exact": 9007199254740993}}}}')
@@ -36,7 +36,7 @@ def check_writing(place: Place, desk: Desk) -> None:
 
 
 def check_typed(place: Place, desk: Desk) -> None:
-    """What was typed is kept where somebody else saved first, and where the server refuses it."""
+    """Saves where somebody else saved first, and where the server refuses it: what was typed is kept."""
     place.made("PUT", "/notes/typed", {"v": 1})
     desk.go("notes", "document", "typed")
     desk.find("main a", "Edit").click()

@@ -28,7 +28,7 @@ def compare_refusal(what: str, options: argparse.Namespace, words: list[str], st
 
 
 def check_usage(options: argparse.Namespace) -> None:
-    """Command lines that are none."""
+    """Tries command lines that are none."""
     for name in ["secret", "file", "port", "conns"]:
         compare_refusal(f"without --{name}", options, words_of(**{name: None}), 2, "usage")
     for conns in ["0", "1000001", "", "+1", "-1", "1 ", "1.0", "0x1", "99999999999999999999"]:
@@ -44,7 +44,7 @@ def check_usage(options: argparse.Namespace) -> None:
 
 
 def check_socket(options: argparse.Namespace, file: str) -> None:
-    """A port that is in use."""
+    """Tries a port that is in use."""
     with socket.create_server(("127.0.0.1", 0)) as taken:
         compare_refusal("a port in use", options, words_of(file=file, port=str(taken.getsockname()[1])), 1, "socket")
 

@@ -44,7 +44,7 @@ def write_and_read(port: int, client: int, count: int, right: list[str]) -> None
 
 
 def check_clients(options: argparse.Namespace, file: str) -> None:
-    """Fifty clients and one with a large document, beside three that are silent and one that sends a byte a second."""
+    """Serves fifty clients and one with a large document, beside three silent ones and a slow one."""
     server = Server(options, file, 56, at_once=AT_ONCE)
     with contextlib.ExitStack() as open_ones:
         silent = [open_ones.enter_context(connected(server.port)) for _ in range(3)]
@@ -71,7 +71,7 @@ def check_clients(options: argparse.Namespace, file: str) -> None:
 
 
 def check_takes_nothing(options: argparse.Namespace, file: str) -> None:
-    """A client that reads nothing holds nobody, and takes no memory beyond the replies to two requests; then it reads all. One that asks for too much at once is closed."""
+    """Reads nothing: that holds nobody, and takes no memory beyond two replies; who asks for too much is closed."""
     server = Server(options, file, 5, at_once=AT_ONCE)
     body = {"v": "x" * 200_000}
     with connected(server.port) as made:
@@ -103,7 +103,7 @@ def check_takes_nothing(options: argparse.Namespace, file: str) -> None:
 
 
 def check_ahead(options: argparse.Namespace, file: str) -> None:
-    """A thousand requests are sent ahead on one connection, cut anywhere; and the last reply reaches one who still sends."""
+    """Sends a thousand requests ahead on one connection, cut anywhere; the last reply reaches one who still sends."""
     server = Server(options, file, 2, at_once=2)
     sent = request("GET", "/", user=None) * 1000
 
@@ -121,7 +121,7 @@ def check_ahead(options: argparse.Namespace, file: str) -> None:
 
 
 def check_one_more(options: argparse.Namespace, file: str) -> None:
-    """One connection more than may be open waits until another ends; after the last the server ends."""
+    """Opens one connection more than may be: it waits until another ends; after the last the server ends."""
     server = Server(options, file, 4, at_once=3)
     with contextlib.ExitStack() as open_ones:
         first = [open_ones.enter_context(connected(server.port)) for _ in range(3)]
@@ -152,7 +152,7 @@ def check_one_more(options: argparse.Namespace, file: str) -> None:
 
 
 def check_sizes(options: argparse.Namespace, file: str) -> None:
-    """Whatever sizes the pieces of requests have, the replies are the same, and those to the last request the last."""
+    """Sends pieces of all sizes: the replies are the same, and those to the last request the last."""
     server = Server(options, file, 7, at_once=2)
     with connected(server.port) as made:
         asks("a database", made, request("PUT", "/db"), reply(201, {"ok": True}))
@@ -179,7 +179,7 @@ def two_requests() -> tuple[bytes, bytes]:
 
 
 def check_ends(options: argparse.Namespace, file: str) -> None:
-    """A client that ends after any byte has the replies to the requests that were whole, and nothing else."""
+    """Ends a client after each byte: it has the replies to the requests that were whole, and nothing else."""
     sent, wanted = two_requests()
     first = len(request("GET", "/db/a"))
     last = len(sent) - len(b"GET")

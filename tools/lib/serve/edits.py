@@ -220,7 +220,7 @@ def damaged_edits(file: str) -> tuple[list[tuple[Edit, Damage]], set[Said]]:
 
 
 def check_edited(options: argparse.Namespace, folder: str) -> None:
-    """A cell that somebody edited, whichever: each reply is a 500 where edits.rows says that it needs what is gone, and else shows the rows."""
+    """Edits each cell: a reply is a 500 where edits.rows says that it needs what is gone, and else shows the rows."""
     file, node = f"{folder}/whole.db", Node()
     server = Server(options, file, 1)
     wanted = [node.answer(ADMIN, method, path, None if value is None else text_of(value)) for method, path, value in FILLING]

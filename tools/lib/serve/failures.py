@@ -61,7 +61,7 @@ def fill(options: argparse.Namespace, file: str) -> None:
 
 
 def check_damaged(options: argparse.Namespace, file: str, at_once: int | None) -> None:
-    """Each request for a damaged row has its line, in order; requests with other replies have none, whatever else they hold."""
+    """Asks for damaged rows: each request has its line, in order; those with other replies have none."""
     what, since = f"damaged rows, {at_once or 1} at once", time.time()
     server = Server(options, file, 2, at_once=at_once, more=["--log"])
     with connected(server.port) as made, connected(server.port) as other:
@@ -86,7 +86,7 @@ def check_damaged(options: argparse.Namespace, file: str, at_once: int | None) -
 
 
 def check_full(options: argparse.Namespace, file: str, at_once: int | None) -> None:
-    """Where the file can't grow, each write that fails has its line."""
+    """Writes where the file can't grow: each write that fails has its line."""
     what, since = f"a full disk, {at_once or 1} at once", time.time()
     server = Server(options, file, 1, limit=300_000, at_once=at_once, more=["--log"])
     failed = []
@@ -107,7 +107,7 @@ def check_full(options: argparse.Namespace, file: str, at_once: int | None) -> N
 
 
 def check_memory(options: argparse.Namespace, file: str, at_once: int | None) -> None:
-    """A reply of 503 has no line: memory ran out, and nothing failed."""
+    """Asks for too much memory: a reply of 503 has no line, since nothing failed."""
     what, since = f"no memory, {at_once or 1} at once", time.time()
     server = Server(options, file, 1, memory=40 << 20, at_once=at_once, more=["--log"])
     with connected(server.port) as made:
@@ -118,7 +118,7 @@ def check_memory(options: argparse.Namespace, file: str, at_once: int | None) ->
 
 
 def check_silent(options: argparse.Namespace, file: str) -> None:
-    """Without --log nothing is said of a 500, nor of the end."""
+    """Asks without --log: nothing is said of a 500, nor of the end."""
     for at_once in (None, 9):
         server = Server(options, file, 1, at_once=at_once)
         with connected(server.port) as made:
@@ -127,7 +127,7 @@ def check_silent(options: argparse.Namespace, file: str) -> None:
 
 
 def check_ends(options: argparse.Namespace, folder: str) -> None:
-    """The end is told where the port is in use too; a file that isn't opened has no server that could end."""
+    """Starts where the port is in use, whose end is told; a file that isn't opened has no server that could end."""
     with socket.create_server(("127.0.0.1", 0)) as taken:
         choices: list[list[str]] = [[], ["--at-once", "9"]]
         for more in choices:
@@ -139,7 +139,7 @@ def check_ends(options: argparse.Namespace, folder: str) -> None:
 
 
 def check_unread(options: argparse.Namespace, file: str) -> None:
-    """Where nobody reads the lines, or standard error is closed, the server goes on: a line that can't be printed is lost."""
+    """Serves where nobody reads the lines, or standard error is closed: a line that can't be printed is lost."""
     for what, behind in (("closed", "exec 2>&-; "), ("a full device", "exec 2>/dev/full; ")):
         program = shlex.join(["sh", "-c", f'{behind}exec "$@"', "sh", *shlex.split(options.program)])
         server = Server(argparse.Namespace(**{**vars(options), "program": program}), file, 2, more=["--log"])
@@ -150,7 +150,7 @@ def check_unread(options: argparse.Namespace, file: str) -> None:
 
 
 def check_killed(options: argparse.Namespace, file: str) -> None:
-    """A line is there once its reply is, so a server that is killed has told of all that it answered."""
+    """Kills a server: a line is there once its reply is, so it has told of all that it answered."""
     since = time.time()
     server = Server(options, file, 9, at_once=9, more=["--log"])
     with connected(server.port) as made:

@@ -31,7 +31,7 @@ def check_files(options: argparse.Namespace, folder: str) -> None:
 
 
 def check_modes(options: argparse.Namespace, folder: str) -> None:
-    """Under umask 022 a file that the server makes is its owner's alone, and so is its log; one that is there keeps its mode, which its log has too."""
+    """Makes files under umask 022, which are their owner's alone, with their logs; one that is there keeps its mode."""
     before = os.umask(0o022)
     for what, file, mode in (("a new file", f"{folder}/new.db", None), ("a file that is there", f"{folder}/there.db", 0o640)):
         if mode:

@@ -14,7 +14,7 @@ from lib.server import Server, asks, connected, finds_sound, reply, request, res
 
 
 def check_killed(options: argparse.Namespace, folder: str) -> None:
-    """A server that is killed while it writes: each write that was answered is there, and none in part."""
+    """Kills a server while it writes: each write that was answered is there, and none in part."""
     for moment in range(20):
         file = f"{folder}/killed{moment}.db"
         server = Server(options, file, 10)
@@ -58,7 +58,7 @@ def write_on(port: int, client: int, answered: list[str]) -> None:
 
 
 def check_killed_among_writers(options: argparse.Namespace, folder: str) -> None:
-    """A server that is killed while fifty clients write: each write that was answered is there, and at most one more of each."""
+    """Kills a server while fifty clients write: each answered write is there, and at most one more of each."""
     for moment in range(3):
         file = f"{folder}/writers{moment}.db"
         server = Server(options, file, 100, at_once=AT_ONCE)

@@ -17,7 +17,7 @@ from lib.server import ADMIN, SECRET, resets
 
 
 def check_run(options: argparse.Namespace) -> None:
-    """A run of a pass in the lab tells the end also where its 10,000th exchange was the last; one exchange more is another run."""
+    """Runs passes in the lab whose end comes with the 10,000th exchange, and one exchange later, by another run."""
     for count, last in ((9_993, "done"), (9_994, "source")):
         documents = json.dumps([{"_id": f"d{number}"} for number in range(count)], separators=(",", ":"))
         body = f'{{"docs":{documents}}}'
@@ -56,7 +56,7 @@ def compare_failure(what: str, options: argparse.Namespace, printed: bytes, **st
 
 
 def check_failing_reads(options: argparse.Namespace) -> None:
-    """Where reading the script fails, at once or behind some lines, what these print is printed, and the program says `file`."""
+    """Breaks the reading of a script, at once or behind some lines: what these print is printed, and `file` is said."""
     folder = os.open("/", os.O_RDONLY)
     compare_failure("a script that is a folder", options, b"", stdin=folder, stdout=subprocess.PIPE)
     os.close(folder)
@@ -69,14 +69,14 @@ def check_failing_reads(options: argparse.Namespace) -> None:
 
 
 def check_endless(options: argparse.Namespace) -> None:
-    """A script without an end is given up, and the program says `file`."""
+    """Plays a script without an end, which is given up: the program says `file`."""
     with subprocess.Popen(["sh", "-c", "printf 'node A\\nconn A c\\n'; exec yes 'send c '"], stdout=subprocess.PIPE, stderr=subprocess.DEVNULL) as endless:
         compare_failure("a script without an end", options, b"", stdin=endless.stdout, stdout=subprocess.PIPE)
         endless.kill()
 
 
 def check_failing_writes(options: argparse.Namespace) -> None:
-    """Where printing fails, at once or behind some bytes, the program ends and says `file`."""
+    """Breaks the printing, at once or behind some bytes: the program ends and says `file`."""
     with open("/dev/full", "wb") as full:
         compare_failure("a full device", options, b"", input=FIRST.encode(), stdout=full)
     reading, writing = os.pipe()

@@ -12,7 +12,7 @@ LIMITS = [16, 18, 20, 24, 28, 32, 40, 48, 64, 80, 96, 128, 160, 192, 256, 320]
 
 
 def check_full(options: argparse.Namespace, file: str) -> None:
-    """A disk that is full, as by a limit of the file's size: a write is answered by 500, and what was written stays."""
+    """Fills a disk, by a limit of the file's size: a write is answered by 500, and what was written stays."""
     server = Server(options, file, 1, limit=300_000)
     written, told = [], None
     with connected(server.port) as made:
@@ -51,7 +51,7 @@ def large_requests() -> list[tuple[int, bytes]]:
 
 
 def check_memory(options: argparse.Namespace, folder: str) -> None:
-    """A limit on the program's memory: each reply is the wanted one or 503, what was answered is there, and the server goes on."""
+    """Limits the memory: each reply is the wanted one or 503, what was answered is there, and the server goes on."""
     requests = large_requests()
     for limit in LIMITS:
         file, what = f"{folder}/memory{limit}.db", f"with {limit} MB"
@@ -75,7 +75,7 @@ def check_memory(options: argparse.Namespace, folder: str) -> None:
 
 
 def check_cache(options: argparse.Namespace, file: str) -> None:
-    """A file that is longer than 8 MB holds the same, however much of it is kept in memory."""
+    """Reads a file that is longer than 8 MB: it holds the same, however much of it is kept in memory."""
     server = Server(options, file, 5)
     compare("a database", 201, answer_of(server.port, request("PUT", "/db"))[0])
     for part in range(4):

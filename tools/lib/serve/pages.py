@@ -36,7 +36,7 @@ def random_write(chance: random.Random, names: list[str]) -> tuple[str, bytes]:
 
 
 def check_pages(options: argparse.Namespace, file: str, seed: int) -> None:
-    """Each page is the model's, beside writes, deletions, conflicts, and a database that is removed and made again."""
+    """Compares each page with the model's, beside writes, conflicts, and a database that is removed and made again."""
     chance, node = random.Random(seed), Node()
     names = [f"k{number:05}{'x' * chance.randrange(3)}" for number in range(DOCUMENTS)]
     steps: list[tuple[str, str, bytes | None]] = [("PUT", "/db", None), ("PUT", "/other", None)]

@@ -30,7 +30,7 @@ def memory_of(number: int, name: str) -> float:
 
 
 def check_many_requests_in_one_piece(options: argparse.Namespace, file: str, at_once: int | None) -> None:
-    """290 lists of a large database, asked for in one piece: all replies are right, and no more than a few of them are held at a time."""
+    """Asks for 290 lists in one piece: all replies are right, and no more than a few are held at a time."""
     # A program that wasn't proved takes other memory, and more time.
     is_proved = "try" not in shlex.split(options.program)
     count = 20_000 if is_proved else 200

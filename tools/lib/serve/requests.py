@@ -45,7 +45,7 @@ def check_requests(options: argparse.Namespace, file: str) -> None:
 
 
 def check_shut(options: argparse.Namespace, file: str) -> None:
-    """A client that has sent all and shut its side before its connection is accepted has every reply."""
+    """Shuts a client's side, which has sent all, before its connection is accepted: it has every reply."""
     server = Server(options, file, 2)
     body = {"v": 1}
     revision = first_revision(body)
@@ -79,7 +79,7 @@ def check_broken(options: argparse.Namespace, file: str) -> None:
 
 
 def check_kept(options: argparse.Namespace, file: str) -> None:
-    """What was written stands in the file, for the next server."""
+    """Reads in the file what the server before has written."""
     server = Server(options, file, 1)
     with connected(server.port) as made:
         asks("a document of before", made, request("GET", "/db/a"), reply(200, {"_id": "a", "_rev": first_revision({"v": 1}), "v": 1}))
@@ -87,7 +87,7 @@ def check_kept(options: argparse.Namespace, file: str) -> None:
 
 
 def check_many(options: argparse.Namespace, file: str) -> None:
-    """New documents are written, read back and deleted, two hundred of them."""
+    """Writes two hundred new documents, reads them back and deletes them."""
     server = Server(options, file, 1)
     with connected(server.port) as made:
         for number in range(200):

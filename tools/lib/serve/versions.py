@@ -30,7 +30,7 @@ def view_of(options: argparse.Namespace, file: str, what: str) -> None:
 
 
 def check_first_version(options: argparse.Namespace, folder: str) -> None:
-    """A file of version 1 is carried over once; one that isn't laid out is refused, and stays as it was."""
+    """Opens a file of version 1: it is carried over once; one that isn't laid out is refused, and stays as it was."""
     file = f"{folder}/first.db"
     write_first(file)
     compare("a file of version 1", FIRST_SHAPE, shape_of(file))

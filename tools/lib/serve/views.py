@@ -45,7 +45,7 @@ def random_write(chance: random.Random, names: list[str]) -> tuple[str, bytes]:
 
 
 def check_views(options: argparse.Namespace, file: str, seed: int) -> None:
-    """Each page is the model's, beside writes, deletions, conflicts, and a design document that declares others and then these."""
+    """Compares each page with the model's, beside writes, and a design document that declares others and then these."""
     chance, node = random.Random(seed), Node()
     names = [f"k{number:05}" for number in range(DOCUMENTS)]
     others = DESIGN | {"_rev": "2-w", "_revisions": {"ids": ["w", "v"], "start": 2}, "indexes": {"by_n": {"fields": ["m"]}, "by_both": {"fields": ["n", "m"]}}}

@@ -13,7 +13,7 @@ from lib.server import WELCOME, Server, asks, connected, first_revision, reply, 
 
 
 def check_silent(options: argparse.Namespace, file: str) -> None:
-    """A client that sends nothing is left after 30 seconds, without a reply, and the next one is served."""
+    """Sends nothing: the client is left after 30 seconds, without a reply, and the next one is served."""
     server = Server(options, file, 2)
     with connected(server.port) as silent, connected(server.port) as waiting:
         begun = time.monotonic()
@@ -24,7 +24,7 @@ def check_silent(options: argparse.Namespace, file: str) -> None:
 
 
 def check_idle(options: argparse.Namespace, file: str) -> None:
-    """A silent connection is closed after 60 seconds, and one whose request isn't whole after 30, each without a reply."""
+    """Leaves a connection silent, which is closed after 60 seconds; one whose request isn't whole is after 30."""
     server = Server(options, file, 2, at_once=2)
     with connected(server.port) as silent, connected(server.port) as slow:
         silent.settimeout(90)
@@ -42,7 +42,7 @@ def check_idle(options: argparse.Namespace, file: str) -> None:
 
 
 def check_takes_nothing(options: argparse.Namespace, file: str) -> None:
-    """A client that takes no replies is left, and the next one is served: forty replies of a million bytes are more than sockets keep.
+    """Takes no replies: the client is left, and the next one is served; forty replies of 1 MB are more than sockets keep.
 
     Each write waits for 30 seconds. The system's buffers grow while they fill, so the first two may end by taking some bytes.
     """

@@ -15,7 +15,7 @@ from lib.values import present
 
 
 def check_away(place: Place) -> None:
-    """A server that is killed in the middle of a pass and back after some seconds costs the pass nothing, behind nginx either."""
+    """Kills a server in the middle of a pass, and starts it after some seconds: it costs nothing, nor behind nginx."""
     options, room, source, through = place.options, place.room, place.source, place.through
     ways = [(side, before) for before in ([None, through] if through else [None]) for side in ("source", "target")]
     for side, before in ways:
@@ -42,7 +42,7 @@ def check_away(place: Place) -> None:
 
 
 def check_slow(place: Place) -> None:
-    """A server that sends a byte each second takes as long as the patience, and not longer."""
+    """Sends a byte each second: the pass takes as long as the patience, and not longer."""
     options, source = place.options, place.source
     ends = threading.Event()
 

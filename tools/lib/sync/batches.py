@@ -65,7 +65,7 @@ def check_long(place: Place) -> None:
 
 
 def check_leaves(place: Place) -> None:
-    """A document of 380 leaves comes from a server, through nginx too: its leaves are asked for in several requests."""
+    """Copies a document of 380 leaves, through nginx too: its leaves are asked for in several requests."""
     options, room, through = place.options, place.room, place.through
     source = f"{room}/leaves.db"
     server = serving(options, source, at_once=8)

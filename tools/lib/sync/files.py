@@ -11,7 +11,7 @@ from lib.syncing import asked, empty, held, report, serving, synced
 
 
 def check_files(place: Place) -> None:
-    """From file to file, and once more; then a pass whose documents the target refuses."""
+    """Copies from file to file, and once more; then a document that the target refuses."""
     options, room, source, last = place.options, place.room, place.source, place.last
     target = f"{room}/target.db"
     empty(options, target)
@@ -39,7 +39,7 @@ def check_files(place: Place) -> None:
 
 
 def check_modes(place: Place) -> None:
-    """Under umask 022 a target that the pass makes is its owner's alone, and so is its log; one that is there keeps its mode."""
+    """Makes a target under umask 022: it is its owner's alone, and so is its log; one that is there keeps its mode."""
     options, room, source = place.options, place.room, place.source
     before = os.umask(0o022)
     for what, file, mode in (("a new target", f"{room}/new.db", None), ("a target that is there", f"{room}/there.db", 0o640)):

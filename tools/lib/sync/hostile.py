@@ -61,7 +61,7 @@ def listed(rows: list[Object], last_seq: int) -> bytes:
 
 
 def check_hostile(place: Place) -> None:
-    """Servers that list more than was asked for, or the same for ever, and that tell of more than was sent."""
+    """Asks servers that list more than was asked for, or the same for ever, or tell of more than was sent."""
     options, room = place.options, place.room
     target, source = f"{room}/hostile.db", f"{room}/hostile-source.db"
     # What the program takes without any of that.

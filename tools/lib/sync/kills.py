@@ -11,7 +11,7 @@ from lib.syncing import DONE, Ran, Relay, copied, empty, held, outcome, serving,
 
 
 def check_killed(place: Place) -> None:
-    """A server that is killed in the middle of a pass, and started again: the next pass brings the rest."""
+    """Kills a server in the middle of a pass, and starts it again: the next pass brings the rest."""
     options, room, source = place.options, place.room, place.source
     target = f"{room}/killed.db"
     empty(options, target)
@@ -35,7 +35,7 @@ def compare_killed(what: str, ran: Ran, server: Server) -> None:
 
 
 def check_killed_source(place: Place) -> None:
-    """A server that is killed in the middle of a pull, and started again: the next pass brings the rest."""
+    """Kills a server in the middle of a pull, and starts it again: the next pass brings the rest."""
     options, room, source = place.options, place.room, place.source
     served, target = f"{room}/served-then-killed.db", f"{room}/pulled-in-two.db"
     copied(source, served)

@@ -21,7 +21,7 @@ def written(made: socket.socket, user: str, path: str, body: Json) -> int:
 
 
 def check_nights(place: Place) -> None:
-    """A rule of the source refuses at the target what others wrote. Once it is mended a pass from the start brings it."""
+    """Refuses at the target what others wrote, by a rule of the source; mended, a pass from the start brings it."""
     options, room = place.options, place.room
     source, target = f"{room}/owned.db", f"{room}/owned-copy.db"
     server = serving(options, source, at_once=8)

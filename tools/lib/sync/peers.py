@@ -12,7 +12,7 @@ from lib.syncing import Ran, peer, report, synced, talks, words_of
 
 
 def check_peers(place: Place) -> None:
-    """Servers that are no couchd, and none at all, as targets and as sources."""
+    """Asks servers that are no couchd, and none at all, as targets and as sources."""
     options, room, source = place.options, place.room, place.source
     lost: Ran = (4, "stopped lost " + report(0, 0, 0), [])
     unreadable: Ran = (4, "stopped reply " + report(0, 0, 0), [])
@@ -39,7 +39,7 @@ def check_peers(place: Place) -> None:
 
 
 def check_silent(place: Place) -> None:
-    """A server that says nothing: the first exchange waits for half a minute, and is lost."""
+    """Says nothing as a server: the first exchange waits for half a minute, and is lost."""
     options, source = place.options, place.source
     kept = []
 
@@ -56,7 +56,7 @@ def check_silent(place: Place) -> None:
 
 
 def check_names(place: Place) -> None:
-    """A source that isn't there makes nothing; what is no address is a wrong command line."""
+    """Names a source that isn't there, which makes nothing; and what is no address, which is a wrong command line."""
     options, room, source = place.options, place.room, place.source
     gone, target = f"{room}/gone.db", f"{room}/none-made.db"
     compare("a source file that isn't there", (1, "", ["couchd: file"]), synced(options, "F1", gone, target, more=["--create"]))

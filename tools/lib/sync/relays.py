@@ -7,7 +7,7 @@ from lib.syncing import DONE, Relay, empty, fill, held, outcome, serving, synced
 
 
 def check_relays(place: Place) -> None:
-    """A pull and a push through relays: which connections are used again, and that all comes over in any case."""
+    """Copies through relays, by a pull and a push: which connections are used again, and that all comes over."""
     options, room = place.options, place.room
     source = f"{room}/relayed.db"
     fill(options, source, min(60, options.documents))

@@ -11,7 +11,7 @@ from lib.syncing import DONE, Through, asked, empty, held, outcome, report, serv
 
 
 def check_address(place: Place, through: Through | None = None) -> None:
-    """From a file to a server, perhaps through nginx."""
+    """Copies from a file to a server, perhaps through nginx."""
     options, room, source, last = place.options, place.room, place.source, place.last
     what = "through nginx" if through else "file to server"
     target = f"{room}/{'behind' if through else 'served'}.db"
@@ -26,7 +26,7 @@ def check_address(place: Place, through: Through | None = None) -> None:
 
 
 def check_pull(place: Place, through: Through | None = None) -> None:
-    """From a server to a file, perhaps through nginx: the database is made by a word alone, closed as another that is new."""
+    """Copies from a server to a file, perhaps through nginx: a word alone makes the database, closed as a new one."""
     options, room, source, last = place.options, place.room, place.source, place.last
     what = "a pull through nginx" if through else "a pull"
     target = f"{room}/{'pulled-behind' if through else 'pulled'}.db"
@@ -47,7 +47,7 @@ def check_pull(place: Place, through: Through | None = None) -> None:
 
 
 def check_created(place: Place) -> None:
-    """A database that is there is not made again: it keeps what it holds, and who may read it."""
+    """Copies into a database that is there: it isn't made again, and keeps what it holds and who may read it."""
     options, room, source = place.options, place.room, place.source
     target = f"{room}/created.db"
     server = serving(options, target)
@@ -68,7 +68,7 @@ def check_created(place: Place) -> None:
 
 
 def check_servers(place: Place) -> None:
-    """From a server to another, and between two databases of one, which serves one connection after another."""
+    """Copies between servers, and between two databases of one, which serves one connection after another."""
     options, room, source, last = place.options, place.room, place.source, place.last
     target = f"{room}/second.db"
     empty(options, target)

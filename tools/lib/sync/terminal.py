@@ -28,7 +28,10 @@ def shown(
     more: Iterable[str] = (),
     databases: tuple[str, str] = ("db", "db"),
 ) -> tuple[int, Json, list[Row]]:
-    """Runs a pass whose standard error is a terminal. Returns its status, its report, and the rows that were shown; where anything else was, that is told, and none."""
+    """Runs a pass whose standard error is a terminal. Returns its status, its report, and the rows that were shown.
+
+    Where anything else was shown, that is told, and there are none.
+    """
     status, line, lines = on_terminal(options, session, source, target, more, databases)
     rows = [(int(row[1]), int(row[2]), int(row[4]) if row[4] else None, bool(row[5])) for row in SHOWN.finditer(lines[0])]
     if SHOWN.sub("", lines[0]) != "" or lines[1:] not in ([], [""]):
@@ -38,8 +41,10 @@ def shown(
 
 
 def check_shown(place: Place) -> None:
-    """A terminal shows what is sent after each batch, and what is left of the source as it was before the pass: a
-    time too, but for the first one. Else the source isn't asked for more than the pass asks."""
+    """Copies on a terminal, which shows what is sent after each batch, and what is left of the source as it was before.
+
+    A time is told too, but for the first batch. Else the source isn't asked for more than the pass asks.
+    """
     options, room, source, last = place.options, place.room, place.source, place.last
     copied(source, f"{room}/shown.db")
     copied(source, f"{room}/shown-served.db")

@@ -34,7 +34,7 @@ class Writer(threading.Thread):
 
 
 def check_both_ways(place: Place) -> None:
-    """A device pushes to an office and pulls from it, while somebody writes there; both have changed one document."""
+    """Copies both ways while somebody writes at the office; a device and the office have changed one document."""
     options, room = place.options, place.room
     device, office = f"{room}/device.db", f"{room}/office.db"
     for file, text in ((device, "device"), (office, "office")):
