@@ -2,11 +2,11 @@
 import argparse
 import re
 import shlex
-from typing import Any
 
 from lib.checks import compare
 from lib.place import DATA, Place, asked, started
 from lib.server import ADMIN, SECRET, Server
+from lib.values import Json
 
 OWNED = {"newDoc.owner": {"$sameAs": "userCtx.name"}}
 # The same, but for those who copy.
@@ -29,7 +29,7 @@ def compare_unit(place: Place, name: str, port: int, settings: dict[str, str], w
         print(printed + said, flush=True)
 
 
-def made(port: int, method: str, path: str, body: Any = None, user: str = ADMIN) -> Any:
+def made(port: int, method: str, path: str, body: Json = None, user: str = ADMIN) -> Json:
     """Sends a request that has to succeed, and returns its value."""
     status, value = asked(port, SECRET, method, path, body, user)
     compare(f"{user} {method} {path}", True, status in (200, 201))
@@ -87,7 +87,7 @@ def leaves_at(port: int, path: str) -> dict[str, list[str]]:
     return {row["id"]: sorted(leaf["rev"] for leaf in row["changes"]) for row in made(port, "GET", f"{path}/_changes?style=all_docs")["results"]}
 
 
-def copied(place: Place, port: int) -> dict[str, tuple[Any, dict[str, list[str]]]]:
+def copied(place: Place, port: int) -> dict[str, tuple[Json, dict[str, list[str]]]]:
     """Returns what the copy has: the security object and the leaves of each database."""
     *program, file = place.command(["/usr/lib/couchd/couchd", f"{DATA}/copies/{port}.db"])
     options = argparse.Namespace(program=shlex.join(program), port=0, wait=60)

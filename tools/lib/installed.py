@@ -5,7 +5,7 @@ import os
 import re
 import signal
 import subprocess
-from typing import Any
+from collections.abc import Callable
 
 from lib.checks import blocks_of, compare, find
 from lib.place import DATA, Place, serving, settings_of, started
@@ -221,7 +221,7 @@ def check_syscalls(place: Place) -> None:
 class serving_traced:
     """Has the installed server run under strace."""
 
-    def __init__(self, place: Place, settings: dict[str, str], take: Any) -> None:
+    def __init__(self, place: Place, settings: dict[str, str], take: Callable[[str], None]) -> None:
         self.place, self.settings, self.take = place, settings, take
 
     def __enter__(self) -> None:
@@ -231,7 +231,7 @@ class serving_traced:
         compare("couchd@ under strace", f"listening 127.0.0.1:{PORT}\n", present(self.process.stdout).readline().decode())
         self.place.traced = traced
 
-    def __exit__(self, *_: Any) -> None:
+    def __exit__(self, *_: object) -> None:
         # strace ends with the program that it runs.
         with open(f"/proc/{self.process.pid}/task/{self.process.pid}/children", encoding="ascii") as file:
             os.kill(int(file.read().split()[0]), signal.SIGTERM)

@@ -1,12 +1,12 @@
 """Documents of 1 MB: each view of one within five seconds, or a sign of what it waits for."""
 import json
-from typing import Any
 
 from lib.checks import compare
 from lib.desk.long_lists import TRIES, shown_within
 from lib.desk.page import Desk
 from lib.desk.place import Place, revision
 from lib.desk.scripts import SETTLED_VIEW
+from lib.values import Object
 
 # In milliseconds: how long a view may take.
 BOUND = 5000
@@ -16,9 +16,9 @@ MOST_LINES = 2002
 LONGEST_LINE = 10_100
 
 
-def bodies(tag: str) -> dict[str, dict[str, Any]]:
+def bodies(tag: str) -> dict[str, Object]:
     """Returns bodies of nearly 1 MB of several forms, whose values differ by a tag."""
-    deep: dict[str, Any] = {"leaf": tag * 400_000}
+    deep: Object = {"leaf": tag * 400_000}
     for number in range(90):
         deep = {"d": deep, "p": "x" * 5_000}
     return {

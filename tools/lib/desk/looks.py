@@ -1,12 +1,12 @@
 """Keys, labels, colours and widths, and the pictures of the pages."""
 import argparse
 import hashlib
-from typing import Any
 
 from lib.checks import compare
 from lib.desk.page import ENTER, Desk
 from lib.desk.place import GREATEST, MERGED, Place, conflicting, revision
 from lib.desk.scripts import CONTRAST, OVERLAPS, UNLABELLED
+from lib.values import Object
 
 
 def check_keys(place: Place, desk: Desk) -> None:
@@ -55,9 +55,9 @@ def check_looks(place: Place, desk: Desk) -> None:
 def seed_pictures(place: Place) -> None:
     """Makes documents for the pictures, with names of revisions as a server gives them."""
     names = [hashlib.md5(f"week {number}".encode()).hexdigest() for number in range(60)]
-    base: dict[str, Any] = {"day": "Monday", "guests": ["Ann", "Bo"], "place": {"house": "North", "room": 12}, "title": "Week 48"}
-    tuesday: dict[str, Any] = {**base, "day": "Tuesday", "budget": GREATEST, "place": {"house": "South", "room": 12}}
-    friday: dict[str, Any] = {**base, "day": "Friday", "guests": ["Ann", "Bo", "Cy"], "place": {"house": "North", "room": 7}}
+    base: Object = {"day": "Monday", "guests": ["Ann", "Bo"], "place": {"house": "North", "room": 12}, "title": "Week 48"}
+    tuesday: Object = {**base, "day": "Tuesday", "budget": GREATEST, "place": {"house": "South", "room": 12}}
+    friday: Object = {**base, "day": "Friday", "guests": ["Ann", "Bo", "Cy"], "place": {"house": "North", "room": 7}}
     place.made("PUT", "/plans")
     place.push(
         "plans",

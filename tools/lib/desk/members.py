@@ -1,15 +1,15 @@
 """Merges by members: each member from either side with one press, nested ones too, and two of thirty versions at a time."""
 import json
-from typing import Any
 
 from lib.checks import compare
 from lib.desk.page import ENTER, Desk
 from lib.desk.place import GREATEST, Place, revision
 from lib.desk.scripts import MEMBERS
+from lib.values import Json, Object
 
-BASE: dict[str, Any] = {"address": {"city": "Bonn", "street": {"name": "x", "no": 1}}, "day": "Monday", "gone": 1, "same": [1], "map": {"__proto__": {"a": 1}}}
+BASE: Object = {"address": {"city": "Bonn", "street": {"name": "x", "no": 1}}, "day": "Monday", "gone": 1, "same": [1], "map": {"__proto__": {"a": 1}}}
 LEFT = {**BASE, "address": {"city": "Ulm", "street": {"name": "z", "no": 2}}}
-RIGHT: dict[str, Any] = {"address": {"city": "Kiel", "street": {"name": "x", "no": 1}}, "day": "Friday", "new": GREATEST, "same": [1], "map": {"__proto__": {"a": 2}}}
+RIGHT: Object = {"address": {"city": "Kiel", "street": {"name": "x", "no": 1}}, "day": "Friday", "new": GREATEST, "same": [1], "map": {"__proto__": {"a": 2}}}
 # What the table says: the member, the value of each side with what it did to the ancestor, and which of them is taken.
 ADDRESS = ["address", '{"city":"Ulm","street":{"name":"z","no":2}} changed', '{"city":"Kiel","street":{"name":"x","no":1}} changed', "left"]
 INNER = [["address.city", '"Ulm" changed', '"Kiel" changed', "left"], ["address.street", '{"name":"z","no":2} changed', '{"name":"x","no":1}', "left"]]
@@ -21,7 +21,7 @@ OTHERS = [
     ["new", "no such member", f"{GREATEST} added", "right"],
 ]
 # Presses one after the other, and what each of them changes of the merged body; None takes a member away.
-PRESSES: list[tuple[str, dict[str, Any]]] = [
+PRESSES: list[tuple[str, Object]] = [
     ('address.city: take "Kiel" of 2-a2 conflict', {"address": {"city": "Kiel", "street": {"name": "z", "no": 2}}}),
     ("address.street.no: take 1 of 2-a2", {"address": {"city": "Kiel", "street": {"name": "z", "no": 1}}}),
     ("gone: take 1 of 2-b2 winner", {"gone": 1}),
@@ -33,7 +33,7 @@ TAKEN = {"address": "", "address.city": "right", "address.street": "", "address.
 TAKEN |= {"day": "right", "gone": "left", "map": "left", "map.__proto__": "left", "new": "right"}
 
 
-def merged_body(desk: Desk) -> Any:
+def merged_body(desk: Desk) -> Json:
     return json.loads(desk.find("textarea").value())
 
 

@@ -1,9 +1,9 @@
 """A browser that has the desk open."""
 import json
-from typing import Any
 
 from lib.desk.place import Place
 from lib.server import ADMIN
+from lib.values import Json
 from lib.webdriver import Browser, Element, Failed
 
 TAB, ENTER, ESCAPE, ALT = "\ue004", "\ue007", "\ue00c", "\ue00a"
@@ -54,7 +54,7 @@ class Desk(Browser):
         field.clear()
         field.type(text)
 
-    def body(self) -> Any:
+    def body(self) -> Json:
         return json.loads(self.find("pre.body").text())
 
     def links(self, css: str) -> list[str]:

@@ -1,18 +1,17 @@
 """Keyboard and screen reader: what Chromium's own tree of accessibility says of each view, and where its keys lead."""
-from typing import Any
-
 from lib.checks import compare
 from lib.desk.looks import PLACES
 from lib.desk.page import ENTER, TAB, Desk
 from lib.desk.place import Place, conflicting, revision
 from lib.desk.scripts import FOCUSED, REACHABLE, SIGNS
+from lib.values import Object
 
 CONTROLS = ["button", "link", "textbox", "combobox", "checkbox", "progressbar", "DisclosureTriangle"]
 GROUPS = ["navigation", "region", "dialog"]
 SEVERAL = ["readers", "readers/settle/nested", "readers/settle/thirty"]
 
 
-def nodes_of(desk: Desk) -> list[dict[str, Any]]:
+def nodes_of(desk: Desk) -> list[Object]:
     """Returns the nodes of the page that screen readers meet: role, name, and the properties that they tell."""
     desk.emulate("Accessibility.enable")
     nodes = [node for node in desk.emulate("Accessibility.getFullAXTree")["nodes"] if not node.get("ignored")]

@@ -1,10 +1,10 @@
 """Documents that are written, edited and deleted."""
 import json
-from typing import Any
 
 from lib.checks import compare
 from lib.desk.page import Desk
 from lib.desk.place import GREATEST, LEAST, Place
+from lib.values import Object
 
 
 def check_writing(place: Place, desk: Desk) -> None:
@@ -14,7 +14,7 @@ def check_writing(place: Place, desk: Desk) -> None:
     desk.retype("textarea", f'{{"big": {GREATEST}, "small": {LEAST}, "deep": {{"__proto__": {{"x": 1}}, "exact": 9007199254740993}}}}')
     desk.press_button("Save")
     desk.find("h3", "winner")
-    wanted: dict[str, Any] = {"big": GREATEST, "small": LEAST, "deep": {"__proto__": {"x": 1}, "exact": 9007199254740993}}
+    wanted: Object = {"big": GREATEST, "small": LEAST, "deep": {"__proto__": {"x": 1}, "exact": 9007199254740993}}
     compare("new: what is stored", [wanted], list(place.living("notes", "fresh").values()))
     desk.find("main a", "Edit").click()
     text = desk.find("textarea").value()
