@@ -8,12 +8,11 @@ from __future__ import annotations
 import re
 import sys
 
-from lib.values import Reply
-
-from model import Database, Node, Refusal, User
-from replication import Pass
 from lib.server import SECRET, text_of
 from lib.settings import token_of
+from lib.values import Reply
+from model import Database, Node, Refusal, User
+from replication import Pass
 
 SYNTAX = 400, text_of({"error": "bad_request", "reason": "syntax"})
 ESCAPES = {"r": b"\r", "n": b"\n", "\\": b"\\"}
