@@ -12,9 +12,7 @@ import socket
 import sqlite3
 from typing import Any
 
-TOP = os.path.dirname(os.path.dirname(os.path.abspath(__file__)))
-
-from lib.server import ADMIN, Server, message, proxy_lines
+from lib.server import ADMIN, TOP, Server, message, proxy_lines
 from lib.values import Object, Reply, present
 
 with open(f"{TOP}/crates/tables/src/create.rt", encoding="utf-8") as code:
