@@ -1,9 +1,9 @@
 """Follows the lines of docs/OPERATE-DESK.md on a machine of their own, up to its last section, for tools/documents.
 
-It has to run in a namespace of mounts and networks of its own: what is written is held in memory, on an overlay of the
-root, and the ports are free. Lines of apt-get aren't run, and in place of systemd nginx is started. Then it asks for
-the desk as a browser does, over six connections at once, and prints as JSON what the shell said, and the status and the
-seconds of each reply.
+It is run as `python3 -m lib.desk_lines`, in a namespace of mounts and networks of its own: what is written is held in
+memory, on an overlay of the root, and the ports are free. Lines of apt-get aren't run, and in place of systemd nginx
+is started. Then it asks for the desk as a browser does, over six connections at once, and prints as JSON what the shell
+said, and the status and the seconds of each reply.
 """
 import base64
 import concurrent.futures
@@ -15,11 +15,10 @@ import subprocess
 import sys
 import time
 
-sys.path.append(os.path.dirname(os.path.dirname(os.path.abspath(__file__))))
-
 from lib.checks import blocks_of
 from lib.place import mount, raise_loopback
 from lib.server import TOP
+from lib.values import present
 
 USER, PASSWORD = "alice", "try"
 # The status where no overlay can be had.
@@ -80,7 +79,7 @@ def main() -> None:
     script = "\n".join(["set -e", f"cd {TOP}", *lines, ending])
     shell = subprocess.Popen(["chroot", root, "bash", "-c", script], stdin=subprocess.PIPE, stdout=subprocess.PIPE, stderr=subprocess.PIPE, text=True)
     printed = []
-    for line in shell.stdout:
+    for line in present(shell.stdout):
         printed.append(line)
         if line == "followed\n":
             break
