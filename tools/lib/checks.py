@@ -1,4 +1,6 @@
 """Counts comparisons, finds programs, and reads the fenced blocks of documents, for the checks of this folder."""
+from __future__ import annotations
+
 import os
 import re
 import shutil
@@ -6,11 +8,11 @@ import sys
 import threading
 
 passed, failed = 0, 0
-missing = set()
+missing: set[str] = set()
 counting = threading.Lock()
 
 
-def compare(what, wanted, got):
+def compare(what: str, wanted: object, got: object) -> None:
     """Counts one comparison, and tells where it differs."""
     global passed, failed
     with counting:
@@ -21,7 +23,7 @@ def compare(what, wanted, got):
     print(f"{os.path.basename(sys.argv[0])}: {what}\n  wanted {wanted!r}\n  got    {got!r}", flush=True)
 
 
-def find(program):
+def find(program: str) -> str | None:
     """Returns the path of a program; where it isn't installed prints a line that `./test` collects, and returns None."""
     found = shutil.which(program) or shutil.which(f"/usr/sbin/{program}")
     if found is None and program not in missing:
@@ -30,15 +32,18 @@ def find(program):
     return found
 
 
-def finish():
+def finish() -> int:
     """Prints the last line, and returns the status of the check."""
     print(f"{passed} passed, {failed} failed")
     return 1 if failed else 0
 
 
-def blocks_of(text):
+def blocks_of(text: str) -> list[tuple[int, str, str]]:
     """Returns the headings, the scripts' names and the fenced blocks of a document, in order, as (line, kind, text)."""
-    found, kind, lines, start = [], None, [], 0
+    found: list[tuple[int, str, str]] = []
+    kind: str | None = None
+    lines: list[str] = []
+    start = 0
     for number, line in enumerate(text.split("\n"), 1):
         fence = re.fullmatch(r"```(\w*)", line)
         if kind is None and fence:
@@ -56,6 +61,6 @@ def blocks_of(text):
     return found
 
 
-def replies_of(text):
+def replies_of(text: str) -> list[str]:
     """Returns the replies that stand behind the commands of a block, as 'STATUS BODY'."""
     return re.findall(r"(?m)^# ([0-9]{3} .*)$", text)

@@ -1,11 +1,12 @@
 """What the units couchd-copy@ and couchd-sync@ do with rules that refuse, with all databases, and with what differs, for tools/package_check."""
+import argparse
 import re
-import subprocess
-from typing import Any
+import shlex
 
 from lib.checks import compare
-from lib.place import DATA, asked, started
+from lib.place import DATA, Place, asked, started
 from lib.server import ADMIN, SECRET, Server
+from lib.values import Json
 
 OWNED = {"newDoc.owner": {"$sameAs": "userCtx.name"}}
 # The same, but for those who copy.
@@ -13,14 +14,14 @@ MENDED = {"$or": [{"userCtx.roles": {"$all": ["_admin"]}}, OWNED]}
 SECURITY = {"admins": {"names": ["ann"], "roles": []}, "members": {"names": ["ann", "bob"], "roles": ["clerks"]}}
 
 
-def run_unit(place: Any, name: str, port: int, settings: dict[str, str]) -> tuple[int, str, str]:
+def run_unit(place: Place, name: str, port: int, settings: dict[str, str]) -> tuple[int, str, str]:
     """Runs a unit to its end. Returns its status, what it printed, and its standard error."""
     process = started(place, f"{name}.service", str(port), settings)
     printed, said = process.communicate(timeout=120)
     return process.returncode, printed.decode(), said.decode()
 
 
-def compare_unit(place: Any, name: str, port: int, settings: dict[str, str], what: str, wanted: int, line: str = "") -> None:
+def compare_unit(place: Place, name: str, port: int, settings: dict[str, str], what: str, wanted: int, line: str = "") -> None:
     """Runs a unit, and compares its status and the line that names what differs: a pattern, or none."""
     status, printed, said = run_unit(place, name, port, settings)
     compare(f"{name}: {what}", (wanted, True), (status, bool(re.fullmatch(f"{line}\n" if line else "", said))))
@@ -28,7 +29,7 @@ def compare_unit(place: Any, name: str, port: int, settings: dict[str, str], wha
         print(printed + said, flush=True)
 
 
-def made(port: int, method: str, path: str, body: Any = None, user: str = ADMIN) -> Any:
+def made(port: int, method: str, path: str, body: Json = None, user: str = ADMIN) -> Json:
     """Sends a request that has to succeed, and returns its value."""
     status, value = asked(port, SECRET, method, path, body, user)
     compare(f"{user} {method} {path}", True, status in (200, 201))
@@ -41,7 +42,7 @@ def differing(database: str, source: str, target: str, count: int, first: str, c
     return re.escape(text + "{} documents and {} deleted at the source; {} documents and {} deleted at the target".format(*counts))
 
 
-def check_nights(place: Any, port: int, settings: dict[str, str]) -> None:
+def check_nights(place: Place, port: int, settings: dict[str, str]) -> None:
     """Copies a database whose rule refuses what others wrote: each night fails, and names how many, for as long as they are missing."""
     settings = {**settings, "COUCHD_COPY_DBS": "owned"}
     rule = made(port, "PUT", "/owned") and made(port, "PUT", "/owned/_design/owner", {"validate_doc_update": OWNED})
@@ -61,7 +62,7 @@ def check_nights(place: Any, port: int, settings: dict[str, str]) -> None:
     compare("couchd-copy@: all four documents", ["_design/owner", "a", "ann", "bob", "eve"], sorted(has))
 
 
-def check_all(place: Any, port: int, settings: dict[str, str]) -> None:
+def check_all(place: Place, port: int, settings: dict[str, str]) -> None:
     """Copies all databases, with their security objects, and one that is new the next night."""
     settings = {**settings, "COUCHD_COPY_DBS": "*"}
     made(port, "PUT", "/notes/_security", SECURITY)
@@ -86,21 +87,20 @@ def leaves_at(port: int, path: str) -> dict[str, list[str]]:
     return {row["id"]: sorted(leaf["rev"] for leaf in row["changes"]) for row in made(port, "GET", f"{path}/_changes?style=all_docs")["results"]}
 
 
-def copied(place: Any, port: int) -> dict[str, tuple[Any, dict[str, list[str]]]]:
+def copied(place: Place, port: int) -> dict[str, tuple[Json, dict[str, list[str]]]]:
     """Returns what the copy has: the security object and the leaves of each database."""
-    words = place.command(["/usr/lib/couchd/couchd", "serve", "--secret", SECRET, "--file", f"{DATA}/copies/{port}.db", "--port", "0", "--conns", "1000", ADMIN])
-    process = subprocess.Popen(words, stdout=subprocess.PIPE, stderr=subprocess.DEVNULL, env=place.environment({}))
-    at = int(process.stdout.readline().decode().rsplit(":", 1)[1])
+    *program, file = place.command(["/usr/lib/couchd/couchd", f"{DATA}/copies/{port}.db"])
+    options = argparse.Namespace(program=shlex.join(program), port=0, wait=60)
+    server = Server(options, file, 1000, environment=place.environment({}))
     found = {}
-    for database in made(at, "GET", "/_all_dbs"):
+    for database in made(server.port, "GET", "/_all_dbs"):
         path = f"/{database.replace('+', '%2B')}"
-        found[database] = made(at, "GET", f"{path}/_security"), leaves_at(at, path)
-    process.terminate()
-    process.wait(60)
+        found[database] = made(server.port, "GET", f"{path}/_security"), leaves_at(server.port, path)
+    server.stop()
     return found
 
 
-def check_both(place: Any, port: int, settings: dict[str, str], office: Server) -> None:
+def check_both(place: Place, port: int, settings: dict[str, str], office: Server) -> None:
     """Copies all databases between two servers: each makes what it lacks, with its security object; what differs fails."""
     settings = {**settings, "COUCHD_SYNC_DBS": "*"}
     made(office.port, "PUT", "/theirs")
@@ -121,7 +121,8 @@ def check_both(place: Any, port: int, settings: dict[str, str], office: Server) 
     compare_unit(place, "couchd-sync@", port, settings, "another security object", 3, line)
 
 
-def check_copies(place: Any, port: int, settings: dict[str, str], office: Server) -> None:
+def check_copies(place: Place, port: int, settings: dict[str, str], office: Server) -> None:
+    """Copies databases between two servers, and into files, by the units."""
     check_nights(place, port, settings)
     check_all(place, port, settings)
     made(port, "DELETE", "/owned")

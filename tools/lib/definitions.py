@@ -1,11 +1,19 @@
 """Reads the definitions of all crates' specs, and the clauses of their functions, and finds what a clause reaches."""
+from __future__ import annotations
+
 import dataclasses
 import glob
 import os
 import re
+from collections.abc import Iterable, Iterator
+from typing import Optional
+
+from lib.values import present
 
 WORD = re.compile(r"[A-Za-z_][\w'-]*(?:\.[A-Za-z_][\w'-]*)*")
 USE = re.compile(r"(?:pub )?(?:ghost )?use (Rattle[\w.+]*?)(?:\.\{(.*?)\})?(?: as (\w+))?;?$")
+# Where each name comes from: a module, and its name there, or None where it is the module.
+Names = dict[str, tuple[str, Optional[str]]]
 HEAD = re.compile(r"((?:(?:abbrev|pub|unfoldable|opaque|data|record|codata|mutual)\s+)*)([^\s(){}:;]+)")
 
 
@@ -18,10 +26,10 @@ class Definition:
     name: str
     kind: str
     comment: str
-    lines: list
-    names: dict
+    lines: list[str]
+    names: Names
 
-    def place(self):
+    def place(self) -> tuple[str, str]:
         return self.file, self.name
 
 
@@ -33,9 +41,9 @@ class Outside:
     name: str
 
 
-def uses_in(lines):
+def uses_in(lines: list[str]) -> Names:
     """Returns where each name comes from that the `use` items of these lines bring: a module, and its name there or None."""
-    names = {}
+    names: Names = {}
     for line in lines:
         found = USE.match(line.strip())
         if not found:
@@ -53,22 +61,26 @@ def uses_in(lines):
 class Book:
     """All definitions of a repository."""
 
-    def __init__(self, top):
-        self.top, self.modules, self.heads = top, {}, {}
+    def __init__(self, top: str) -> None:
+        self.top = top
+        self.modules: dict[str, dict[str, Definition]] = {}
+        self.heads: dict[str, str] = {}
         for path in sorted(glob.glob(f"{top}/crates/*/specs/**/*.antt", recursive=True)):
             crate, _, rest = os.path.relpath(path, f"{top}/crates").partition("/specs/")
             module = f"Rattle.{crate}.specs.{rest.removesuffix('.antt').replace('/', '.')}"
             with open(path, encoding="utf-8") as file:
                 self.read(module, crate, os.path.relpath(path, top), file.read().split("\n"))
 
-    def read(self, module, crate, path, lines):
+    def read(self, module: str, crate: str, path: str, lines: list[str]) -> None:
         """Takes in a file: the comment at its head, and its definitions by their names; constructors lead to their type.
 
         The name of a record's member leads nowhere: whoever takes a member of a value names the value's type, or a
         definition whose type names it, and often a variable has the member's name.
         """
         named, is_inner = self.modules.setdefault(module, {}), False
-        names, comment, current, is_head = uses_in(lines), [], None, True
+        names, is_head = uses_in(lines), True
+        comment: list[str] = []
+        current: Definition | None = None
         self.heads[path] = lines[0].removeprefix("-- ")
         for line in lines:
             # What stands in a module with parameters, or is defined together, is two blanks further in.
@@ -84,6 +96,7 @@ class Book:
             elif USE.match(text.strip()) or text.startswith("pub mod "):
                 is_head = False
             elif text[0] == " " or not HEAD.match(text):
+                current = present(current)
                 current.lines.append(text)
                 member = re.match(r"\s+(?:pub )?([\w'-]+)\s*:", text)
                 if member and current.kind == "data":
@@ -91,7 +104,7 @@ class Book:
             else:
                 is_head = False
                 is_inner = is_inner and line.startswith("  ")
-                words, name = HEAD.match(text).groups()
+                words, name = present(HEAD.match(text)).groups()
                 if current is None or name != current.name:
                     kind = next((word for word in ("data", "record") if word in words.split()), "")
                     current = named.get(name) or Definition(crate, path, name, kind, " ".join(comment), [], names)
@@ -99,19 +112,19 @@ class Book:
                 current.lines.append(text)
                 comment = []
 
-    def find(self, module, name, seen=()):
+    def find(self, module: str, name: str, seen: tuple[str, ...] = ()) -> Definition | Outside:
         """Returns what a name of a module is, behind what the module itself takes from others."""
         known = self.modules.get(module)
         if known is None:
             return Outside(module, name)
         if name in known:
             return known[name]
-        passed_on = next((one.names for one in known.values() if name in one.names), {}).get(name)
+        passed_on = next((one.names[name] for one in known.values() if name in one.names), None)
         if passed_on and module not in seen:
             return self.find(passed_on[0], passed_on[1] or name, (*seen, module))
         return Outside(module, name)
 
-    def named(self, text, names, module=None):
+    def named(self, text: str, names: Names, module: str | None = None) -> Iterator[Definition | Outside]:
         """Yields what the words of a text name, by these names and those of a module."""
         for word in set(WORD.findall(text)):
             first, _, rest = word.partition(".")
@@ -122,9 +135,11 @@ class Book:
                 if name or rest:
                     yield self.find(source, name or rest.split(".")[0])
 
-    def reach(self, text, names):
+    def reach(self, text: str, names: Names) -> tuple[dict[tuple[str, str], Definition], set[Outside]]:
         """Returns all definitions that a text reaches, and the names outside of specs/."""
-        reached, outside, todo = {}, set(), list(self.named(text, names))
+        reached: dict[tuple[str, str], Definition] = {}
+        outside: set[Outside] = set()
+        todo = list(self.named(text, names))
         while todo:
             one = todo.pop()
             if isinstance(one, Outside):
@@ -141,13 +156,14 @@ class Clauses:
     """The clauses of a function that were asked for, as they stand, and the names that they may use."""
 
     file: str
-    texts: list
-    names: dict
+    texts: list[str]
+    names: Names
 
 
-def blocks_at(lines, start):
+def blocks_at(lines: list[str], start: int) -> dict[str, list[str]]:
     """Returns the clauses behind the head of a function, up to its body, each with its comment aside, by their names."""
-    found, current = {}, None
+    found: dict[str, list[str]] = {}
+    current: str | None = None
     for line in lines[start + 1 :]:
         text = line.strip()
         if text in ("{", "{}") or text.startswith("fn "):
@@ -161,13 +177,13 @@ def blocks_at(lines, start):
     return found
 
 
-def clauses_of(top, crate, path, wanted):
+def clauses_of(top: str, crate: str, path: str, wanted: Iterable[str]) -> Clauses:
     """Returns the clauses of these names of a crate's public function; the path may be `Type::name` or `module::name`."""
     owner, _, name = path.rpartition("::")
     for file in sorted(glob.glob(f"{top}/crates/{crate}/src/**/*.rt", recursive=True)):
         with open(file, encoding="utf-8") as code:
             lines = code.read().split("\n")
-        inside = None
+        inside: str | None = None
         for number, line in enumerate(lines):
             if re.match(r"(?:impl|pub trait|trait)\b", line):
                 inside = re.sub(r"<.*?>", "", line).split(" for ")[-1].split()[-2 if line.endswith("{") else -1].rstrip(":")

@@ -1,9 +1,9 @@
-"""Follows the lines of docs/OPERATE.md from its top to the end of 'The desk' on a machine of their own, for tools/documents.
+"""Follows the lines of docs/OPERATE-DESK.md on a machine of their own, up to its last section, for tools/documents.
 
-It has to run in a namespace of mounts and networks of its own: what is written is held in memory, on an overlay of the
-root, and the ports are free. Lines of apt-get aren't run, and in place of systemd nginx is started. Then it asks for
-the desk as a browser does, over six connections at once, and prints as JSON what the shell said, and the status and the
-seconds of each reply.
+It is run as `python3 -m lib.desk_lines`, in a namespace of mounts and networks of its own: what is written is held in
+memory, on an overlay of the root, and the ports are free. Lines of apt-get aren't run, and in place of systemd nginx
+is started. Then it asks for the desk as a browser does, over six connections at once, and prints as JSON what the shell
+said, and the status and the seconds of each reply.
 """
 import base64
 import concurrent.futures
@@ -15,11 +15,10 @@ import subprocess
 import sys
 import time
 
-sys.path.append(os.path.dirname(os.path.dirname(os.path.abspath(__file__))))
-
 from lib.checks import blocks_of
 from lib.place import mount, raise_loopback
 from lib.server import TOP
+from lib.values import present
 
 USER, PASSWORD = "alice", "try"
 # The status where no overlay can be had.
@@ -29,14 +28,12 @@ REQUESTS += ["/plans/_changes?style=all_docs", "/plans/week?revs=true&open_revs=
 
 
 def lines_of(page: str) -> list[str]:
-    """Returns the lines that a reader runs: blocks of commands, and in 'The desk' its lines for root too."""
-    found, is_desk = [], False
+    """Returns the lines that a reader runs: blocks of commands, and the lines for root. The last section ends the server."""
+    found: list[str] = []
     for _, kind, text in blocks_of(page):
-        if kind == "heading":
-            if is_desk:
-                break
-            is_desk = text.lstrip("# ") == "The desk"
-        elif kind == "sh" or (is_desk and text.startswith("apt-get ")):
+        if kind == "heading" and text.lstrip("# ") == "See that it worked":
+            break
+        if kind == "sh" or text.startswith("apt-get "):
             found += text.strip().split("\n")
     return ["nginx" if line == "systemctl restart nginx" else line for line in found if not line.startswith("apt-get ")]
 
@@ -76,13 +73,13 @@ def main() -> None:
         raise_loopback()
     except (subprocess.CalledProcessError, OSError):
         sys.exit(NO_MACHINE)
-    with open(f"{TOP}/docs/OPERATE.md", encoding="utf-8") as file:
+    with open(f"{TOP}/docs/OPERATE-DESK.md", encoding="utf-8") as file:
         lines = lines_of(file.read())
     ending = "echo followed; read -r _; kill $(jobs -p); kill $(cat /run/nginx.pid); wait"
     script = "\n".join(["set -e", f"cd {TOP}", *lines, ending])
     shell = subprocess.Popen(["chroot", root, "bash", "-c", script], stdin=subprocess.PIPE, stdout=subprocess.PIPE, stderr=subprocess.PIPE, text=True)
     printed = []
-    for line in shell.stdout:
+    for line in present(shell.stdout):
         printed.append(line)
         if line == "followed\n":
             break

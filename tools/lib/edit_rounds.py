@@ -91,8 +91,14 @@ class Crates:
         """Checks a copy of a crate with some edits."""
         with tempfile.TemporaryDirectory(prefix="rt-edit-") as room:
             self.write(name, edits, room)
-            how = {"stdin": subprocess.DEVNULL, "stdout": subprocess.PIPE, "stderr": subprocess.STDOUT, "errors": "replace"}
-            ran = subprocess.run([*self.command(name), *flags], cwd=room, **how)
+            ran = subprocess.run(
+                [*self.command(name), *flags],
+                cwd=room,
+                stdin=subprocess.DEVNULL,
+                stdout=subprocess.PIPE,
+                stderr=subprocess.STDOUT,
+                errors="replace",
+            )
         return Said(ran.returncode, ran.stdout.rstrip("\n").split("\n"))
 
     def write(self, name: str, edits: list[Edit], room: str) -> None:

@@ -11,6 +11,8 @@ import glob
 import os
 import re
 
+from lib.values import present
+
 FUNCTION = re.compile(r"( *)(?:pub(?:\([^)]*\))? )?(const )?(?:unsafe )?fn (\w+)")
 BLOCK = re.compile(r"impl(?:<(?:[^<>]|<(?:[^<>]|<[^<>]*>)*>)*>)? (?:(.+) for )?(.+?)(?: where.*)?(?: \{)?$")
 LINE = re.compile(r"(?m)^(?:file: (.*)|old: (.*)\nnew: ?(.*))$")
@@ -57,7 +59,7 @@ def function_at(folder: str, path: str, text: str, first: int, last: int) -> Fun
     at = next((row for row in range(first, -1, -1) if FUNCTION.match(rows[row])), None)
     if at is None or not path.startswith("src/"):
         return None
-    indent, is_const, name = FUNCTION.match(rows[at]).groups()
+    indent, is_const, name = present(FUNCTION.match(rows[at])).groups()
     block = block_above(folder, path, rows[:at]) if indent else module_of(path)
     if is_const or block is None or indent not in ("", "    "):
         return None
@@ -85,9 +87,14 @@ def block_above(folder: str, path: str, rows: list[str]) -> str | None:
 
 def body_of(rows: list[str], at: int, indent: str) -> range:
     """Returns the rows of a function's body, from that which opens it to that which closes it, as `rt fmt` lays it out."""
-    is_end = lambda row: rows[row] == indent + "}" or row == at and rows[row].endswith((";", "}"))
+
+    def is_end(row: int) -> bool:
+        return rows[row] == indent + "}" or row == at and rows[row].endswith((";", "}"))
+
+    def is_start(row: int) -> bool:
+        return rows[row] == indent + "{" or rows[row].endswith("{") and (row == at or rows[row].startswith(indent + ")"))
+
     end = next((row for row in range(at, len(rows)) if is_end(row)), at)
-    is_start = lambda row: rows[row] == indent + "{" or rows[row].endswith("{") and (row == at or rows[row].startswith(indent + ")"))
     return range(next((row for row in range(at, end) if is_start(row)), end), end)
 
 
@@ -132,7 +139,7 @@ class Edit:
 
     @property
     def proofs(self) -> set[str]:
-        """The proofs that the edit breaks, which no other edit of its round may break too."""
+        """Returns the proofs that the edit breaks, which no other edit of its round may break too."""
         return {function.proof for function in self.functions}
 
 

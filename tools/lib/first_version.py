@@ -1,8 +1,10 @@
 """Files of version 1, made by statements alone: what couchd 0.1.0 laid out.
 
-Their tables are those of docs/OPERATE.md. In the keys of their indexes a number takes eight bytes, in place of
+Their tables are those of crates/tables/README.md. In the keys of their indexes a number takes eight bytes, in place of
 nine. A server that opens such a file carries it over to version 2.
 """
+from __future__ import annotations
+
 import contextlib
 import sqlite3
 
@@ -25,7 +27,7 @@ FIRST_KEY = bytes.fromhex("0604800000000000000500")
 SECOND_KEY = bytes.fromhex("060400800000000000000500")
 
 
-def write_first(file):
+def write_first(file: str) -> None:
     """Writes a file of version 1: a database with an index over `a`, and a document with 5 there, whose entry has the first key."""
     documents = [(b"_design/d", 1, DESIGN), (b"x", 2, DOCUMENT)]
     with contextlib.closing(sqlite3.connect(file)) as conn:
@@ -42,7 +44,7 @@ def write_first(file):
         conn.commit()
 
 
-def shape_of(file):
+def shape_of(file: str) -> list[list[tuple[object, ...]]]:
     """Returns the version of a file, its declarations and its entries."""
     with contextlib.closing(sqlite3.connect(file)) as conn:
         texts = ["SELECT version FROM meta", "SELECT db, ddoc, name, fields FROM decls", "SELECT k, id FROM entries"]

@@ -5,23 +5,24 @@ import os
 import re
 import signal
 import subprocess
-from typing import Any
+from collections.abc import Callable
 
 from lib.checks import blocks_of, compare, find
-from lib.place import DATA, serving, settings_of, started
+from lib.place import DATA, Place, serving, settings_of, started
+from lib.values import present
 
 # The port of the pages' examples, in a namespace of networks of its own.
 PORT = 5984
 
 
-def ran_well(place: Any, what: str, lines: str) -> str:
+def ran_well(place: Place, what: str, lines: str) -> str:
     """Runs lines there, which all have to succeed, and returns what they printed."""
     ran = place.shell(lines)
     compare(f"{what}: {ran.stderr.decode()[-400:]}", 0, ran.returncode)
     return ran.stdout.decode()
 
 
-def said_by(place: Any, *words: str) -> tuple[int, str, str]:
+def said_by(place: Place, *words: str) -> tuple[int, str, str]:
     """Returns the status of a command there, what it printed, and its standard error."""
     ran = subprocess.run(["chroot", place.root, *words], capture_output=True, stdin=subprocess.DEVNULL, env=place.environment({"LANG": "C.UTF-8"}), timeout=60)
     return ran.returncode, ran.stdout.decode(), ran.stderr.decode()
@@ -30,7 +31,7 @@ def said_by(place: Any, *words: str) -> tuple[int, str, str]:
 # ---- help, and bash's completion
 
 
-def check_helps(place: Any) -> None:
+def check_helps(place: Place) -> None:
     """Asks for help in each way, and runs the examples; wrong words stay one line and status 2."""
     texts = {name: open(f"{place.root}/usr/lib/couchd/help/{name}", encoding="utf-8").read() for name in ("couchd", "serve", "sync", "check", "lab")}
     for words in (["--help"], ["-h"], ["help"]):
@@ -38,14 +39,15 @@ def check_helps(place: Any) -> None:
     for name in ("serve", "sync", "check", "lab"):
         for words in (["help", name], [name, "--help"], [name, "-h"]):
             compare(f"couchd {words}", (0, texts[name], ""), said_by(place, "couchd", *words))
-    for words in ([], ["help", "nothing"], ["serve"], ["check"], ["check", "--file"], ["--help", "serve"], ["--version", "now"], ["nothing"]):
+    wrong: list[list[str]] = [[], ["help", "nothing"], ["serve"], ["check"], ["check", "--file"], ["--help", "serve"], ["--version", "now"], ["nothing"]]
+    for words in wrong:
         compare(f"couchd {words}", (2, "", "couchd: usage\n"), said_by(place, "couchd", *words))
     status, printed, said = said_by(place, "couchd", "--version")
     compare("couchd --version", (0, True, ""), (status, bool(re.match(r"couchd \d+\.\d+\.\d+\n(sources [0-9a-f]{64}\n(toolchain \S.*\n)?)?\Z", printed)), said))
     # Each word of the manual's command lines is in the help.
     with gzip.open(f"{place.root}/usr/share/man/man1/couchd.1.gz", "rt", encoding="utf-8") as file:
-        words = set(re.findall(r"Fl Fl ([a-z-]+)", file.read())) - {"help", "version"}
-    compare("help: words that it lacks", set(), {word for word in words if not any(f"--{word}" in text for text in texts.values())})
+        named = set(re.findall(r"Fl Fl ([a-z-]+)", file.read())) - {"help", "version"}
+    compare("help: words that it lacks", set(), {word for word in named if not any(f"--{word}" in text for text in texts.values())})
     lines = "\n".join(example_of(texts[name]) for name in ("couchd", "lab"))
     ran_well(place, "help: the examples of couchd and lab", f"{lines}\nsleep 0.3; kill -0 %1; kill %1; wait %1 || true")
     # The script becomes the program: a signal to it is the program's.
@@ -59,7 +61,7 @@ def example_of(text: str) -> str:
     return "\n".join(line for line in re.split(r"(?m)^Example.*\n", text, maxsplit=1)[1].split("\n") if line.startswith("  "))
 
 
-def check_completion(place: Any) -> None:
+def check_completion(place: Place) -> None:
     """Has bash complete words."""
     wanted = {
         ("",): "--help --version check help lab serve sync",
@@ -80,7 +82,7 @@ def check_completion(place: Any) -> None:
 # ---- manual pages, and pages
 
 
-def check_manuals(place: Any) -> None:
+def check_manuals(place: Place) -> None:
     """Runs the examples of the manual pages, where a server runs; man lays them out without a warning."""
     with serving(place, PORT, settings_of(place)):
         for manual in sorted(glob.glob(f"{place.root}/usr/share/man/man1/couchd*.gz")):
@@ -94,23 +96,23 @@ def check_manuals(place: Any) -> None:
                 compare(f"{name}: man", (0, ""), said_by(place, "man", "--warnings", name.split(".")[0])[::2])
 
 
-def check_pages(place: Any) -> None:
-    """Runs the lines of the section 'Your first request' of OPERATE, which are six, and prints what stands there."""
-    with open(f"{place.root}/usr/share/doc/couchd/OPERATE.md", encoding="utf-8") as file:
+def check_pages(place: Place) -> None:
+    """Runs the lines of the section 'Your first request' of OPERATE-INSTALL, which are six, and prints what stands there."""
+    with open(f"{place.root}/usr/share/doc/couchd/OPERATE-INSTALL.md", encoding="utf-8") as file:
         blocks = blocks_of(file.read())
     start = next((index for index, (_, kind, text) in enumerate(blocks) if kind == "heading" and text.endswith(" Your first request")), None)
-    compare("OPERATE: 'Your first request'", True, start is not None)
+    compare("OPERATE-INSTALL: 'Your first request'", True, start is not None)
     if start is None:
         return
     (_, _, lines), (_, _, printed) = blocks[start + 1 : start + 3]
-    compare("OPERATE: 'Your first request': six lines", 6, len(lines.strip().split("\n")))
+    compare("OPERATE-INSTALL: 'Your first request': six lines", 6, len(lines.strip().split("\n")))
     # dpkg has installed it, and what systemd starts is started by hand.
     played = [line for line in lines.strip().split("\n") if not line.startswith(("apt-get ", "systemctl "))]
-    compare("OPERATE: 'Your first request': what isn't played", 2, 6 - len(played))
+    compare("OPERATE-INSTALL: 'Your first request': what isn't played", 2, 6 - len(played))
     os.rename(f"{place.root}{DATA}/{PORT}.db", f"{place.root}{DATA}/before.db")
     os.rename(f"{place.root}{DATA}/{PORT}.db-wal", f"{place.root}{DATA}/before.db-wal")
     with serving(place, PORT, settings_of(place)):
-        compare("OPERATE: 'Your first request'", printed, ran_well(place, "OPERATE: 'Your first request'", "\n".join(played)))
+        compare("OPERATE-INSTALL: 'Your first request'", printed, ran_well(place, "OPERATE-INSTALL: 'Your first request'", "\n".join(played)))
 
 
 # ---- check
@@ -163,7 +165,7 @@ nothing is left:
 """
 
 
-def check_copies_of_files(place: Any) -> None:
+def check_copies_of_files(place: Place) -> None:
     """Has `couchd check` look at files that it can't write, and at what is no file: nothing is written, and each cause is told."""
     if find("sqlite3"):
         printed = ran_well(place, "couchd check", CASES)
@@ -174,7 +176,7 @@ def check_copies_of_files(place: Any) -> None:
 # ---- what the units let the programs do
 
 
-def allowed_by(place: Any, unit: str) -> tuple[set[str], set[str]]:
+def allowed_by(place: Place, unit: str) -> tuple[set[str], set[str]]:
     """Returns the calls of the system and the kinds of sockets that a unit allows, by what systemd says of its sets."""
     text = subprocess.run(["systemd-analyze", "syscall-filter", "--no-pager"], capture_output=True, text=True).stdout
     sets = {head: body.split() for head, body in re.findall(r"(?m)^(@[\w-]+)\n((?:^ .*\n)+)", re.sub(r"(?m)^ *#.*\n", "", text))}
@@ -188,10 +190,10 @@ def allowed_by(place: Any, unit: str) -> tuple[set[str], set[str]]:
     for refused, names in re.findall(r"(?m)^SystemCallFilter=(~?)(.*)$", lines):
         named = set().union(*map(members, names.split()))
         calls = calls - named if refused else calls | named
-    return calls, set(re.search(r"(?m)^RestrictAddressFamilies=(.*)$", lines)[1].split())
+    return calls, set(present(re.search(r"(?m)^RestrictAddressFamilies=(.*)$", lines))[1].split())
 
 
-def check_syscalls(place: Any) -> None:
+def check_syscalls(place: Place) -> None:
     """Runs the units under strace: they make no call, and open no socket, that their filters refuse."""
     if None in (find("strace"), find("systemd-analyze")):
         return
@@ -219,17 +221,17 @@ def check_syscalls(place: Any) -> None:
 class serving_traced:
     """Has the installed server run under strace."""
 
-    def __init__(self, place: Any, settings: dict[str, str], take: Any) -> None:
+    def __init__(self, place: Place, settings: dict[str, str], take: Callable[[str], None]) -> None:
         self.place, self.settings, self.take = place, settings, take
 
     def __enter__(self) -> None:
         traced = self.place.traced
         self.place.traced = [word.replace("trace", "trace-server") if word.startswith("/") else word for word in traced]
         self.process = started(self.place, "couchd@.service", str(PORT), self.settings)
-        compare("couchd@ under strace", f"listening 127.0.0.1:{PORT}\n", self.process.stdout.readline().decode())
+        compare("couchd@ under strace", f"listening 127.0.0.1:{PORT}\n", present(self.process.stdout).readline().decode())
         self.place.traced = traced
 
-    def __exit__(self, *_: Any) -> None:
+    def __exit__(self, *_: object) -> None:
         # strace ends with the program that it runs.
         with open(f"/proc/{self.process.pid}/task/{self.process.pid}/children", encoding="ascii") as file:
             os.kill(int(file.read().split()[0]), signal.SIGTERM)

@@ -2,19 +2,30 @@
 
 Order and paths are those of docs/PROFILE.md; the bytes are those of the layout in crates/rows/data/layout.keys.
 """
+from __future__ import annotations
+
 import re
+from collections.abc import Iterable
+from typing import Any, TypeGuard
+
+from lib.values import Json, Object
 
 
-def names_of(path):
+# What python orders as values are ordered.
+Order = tuple[Any, ...]
+
+
+def names_of(path: str) -> list[str]:
     """Returns the names in the text of a path; a dot behind a backslash stands in a name."""
     return [name.replace("\\.", ".") for name in re.split(r"(?<!\\)\.", path)]
 
 
-def is_path(value):
+def is_path(value: Json) -> TypeGuard[str]:
+    """Tells whether a value is the text of a path."""
     return isinstance(value, str) and 1 <= len(value.encode()) <= 256 and all(names_of(value))
 
 
-def values_at(paths, document):
+def values_at(paths: Iterable[str], document: Json) -> list[Json] | None:
     """Returns the values of a document at these paths, or None where it lacks one of them."""
     found = []
     for path in paths:
@@ -27,12 +38,12 @@ def values_at(paths, document):
     return found
 
 
-def members_of(value):
+def members_of(value: Object) -> list[tuple[bytes, Json]]:
     """Returns the members of an object by the bytes of their names."""
     return sorted(((name.encode(), member) for name, member in value.items()), key=lambda pair: pair[0])
 
 
-def order_of(value):
+def order_of(value: Json) -> Order:
     """Returns what python orders as values are ordered: null, false, true, numbers, texts, arrays, objects."""
     if value is None:
         return (0,)
@@ -47,11 +58,12 @@ def order_of(value):
     return (6, [(name, order_of(member)) for name, member in members_of(value)])
 
 
-def text_bytes(text):
+def text_bytes(text: bytes) -> bytes:
+    """Returns the key of a text, of which no other key is a prefix."""
     return b"\x05" + text.replace(b"\x00", b"\x00\xff") + b"\x00\x00"
 
 
-def key_bytes(value):
+def key_bytes(value: Json) -> bytes:
     """Returns the key of a value, as it is stored."""
     if value is None:
         return b"\x01"

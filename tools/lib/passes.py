@@ -69,10 +69,12 @@ class Server:
         return value
 
     def names(self) -> list[str]:
-        return self.told("GET", "/_all_dbs")
+        names: list[str] = self.told("GET", "/_all_dbs")
+        return names
 
     def about(self, database: str) -> dict[str, Any]:
-        return self.told("GET", f"/{segment(database)}")
+        about: dict[str, Any] = self.told("GET", f"/{segment(database)}")
+        return about
 
     def security(self, database: str) -> Any:
         return self.told("GET", f"/{segment(database)}/_security")

@@ -1,4 +1,6 @@
 """A machine with the package, its units, and what their command lines do there, for tools/package_check."""
+from __future__ import annotations
+
 import contextlib
 import fcntl
 import http.client
@@ -13,11 +15,14 @@ import struct
 import subprocess
 import sys
 import tempfile
-from typing import Any
+from collections.abc import Iterator
+from typing import Union
 
 from lib.checks import compare, finish
 from lib.server import ADMIN, text_of
 from lib.settings import token_of
+from lib.values import Json, present
+
 
 DATA, SETTINGS, UNITS = "/var/lib/couchd", "/etc/default/couchd", "/lib/systemd/system"
 
@@ -32,7 +37,7 @@ class Overlay:
     # Words before each command of a unit.
     traced: list[str] = []
 
-    def __init__(self, room):
+    def __init__(self, room: str) -> None:
         self.root = f"{room}/root"
         mount("-t", "tmpfs", "tmpfs", room)
         for name in ("root", "upper", "work"):
@@ -48,20 +53,20 @@ class Overlay:
         shutil.rmtree(f"{self.root}{DATA}", ignore_errors=True)
         self.dpkg("--purge", "couchd")
 
-    def dpkg(self, *words):
+    def dpkg(self, *words: str) -> subprocess.CompletedProcess[bytes]:
         """Runs dpkg there."""
         return subprocess.run(["chroot", self.root, "dpkg", *words], capture_output=True, env={**os.environ, "DEBIAN_FRONTEND": "noninteractive"})
 
-    def install(self, package):
+    def install(self, package: str) -> subprocess.CompletedProcess[bytes]:
         """Installs a package, which is a file of this machine."""
         shutil.copy(package, self.root)
         return self.dpkg("--install", "/" + os.path.basename(package))
 
-    def command(self, words):
+    def command(self, words: list[str]) -> list[str]:
         """Returns the words that run a command there, as the user `couchd`."""
         return ["chroot", "--userspec=couchd:couchd", self.root, *words]
 
-    def environment(self, settings):
+    def environment(self, settings: dict[str, str]) -> dict[str, str]:
         """Returns the variables of such a command."""
         return {"PATH": "/usr/sbin:/usr/bin:/sbin:/bin", **settings}
 
@@ -77,32 +82,40 @@ class Folder:
     has_users = False
     traced: list[str] = []
 
-    def __init__(self, room):
+    def __init__(self, room: str) -> None:
         self.root = f"{room}/root"
         for name in ("info", "updates", "triggers"):
             os.makedirs(f"{self.root}/var/lib/dpkg/{name}")
         for name in ("status", "available"):
             open(f"{self.root}/var/lib/dpkg/{name}", "w").close()
 
-    def dpkg(self, *words):
+    def dpkg(self, *words: str) -> subprocess.CompletedProcess[bytes]:
         """Runs dpkg for the folder, in which nothing is that the package depends on."""
         forced = ["--force-script-chrootless", "--force-not-root", "--force-depends"]
         return subprocess.run(["dpkg", f"--root={self.root}", f"--log={self.root}/log", *forced, *words], capture_output=True)
 
-    def install(self, package):
+    def install(self, package: str) -> subprocess.CompletedProcess[bytes]:
         """Installs a package."""
         return self.dpkg("--install", package)
 
-    def command(self, words):
+    def command(self, words: list[str]) -> list[str]:
         """Returns the words that run a command there."""
         return [self.root + word if word.startswith("/") else word for word in words]
 
-    def environment(self, settings):
+    def environment(self, settings: dict[str, str]) -> dict[str, str]:
         """Returns the variables of such a command."""
         return {"PATH": f"{self.root}/usr/bin:{os.environ['PATH']}", **settings}
 
+    def shell(self, lines: str) -> subprocess.CompletedProcess[bytes]:
+        """Refuses lines: the folder has no programs but the package's."""
+        raise NotImplementedError("a folder isn't a machine")
 
-def mount(*words):
+
+Place = Union[Overlay, Folder]
+
+
+def mount(*words: str) -> None:
+    """Mounts by these words, or fails."""
     subprocess.run(["mount", *words], check=True, capture_output=True)
 
 
@@ -113,7 +126,7 @@ def raise_loopback() -> None:
         fcntl.ioctl(made, 0x8914, up_and_running)
 
 
-def place_for(room, is_folder):
+def place_for(room: str, is_folder: bool) -> Place:
     """Returns the overlay, or the folder where it can't be had."""
     if not is_folder:
         try:
@@ -127,25 +140,25 @@ def place_for(room, is_folder):
 # ---- what the units run
 
 
-def settings_of(place):
+def settings_of(place: Place) -> dict[str, str]:
     """Returns the variables of the settings."""
     with open(place.root + SETTINGS, encoding="utf-8") as file:
         lines = [line.strip() for line in file if line.strip() and not line.startswith("#")]
     return {name: " ".join(shlex.split(value)) for name, value in (line.split("=", 1) for line in lines)}
 
 
-def unit_of(place, name):
+def unit_of(place: Place, name: str) -> dict[str, str]:
     """Returns the lines of a unit by their names."""
     with open(f"{place.root}{UNITS}/{name}", encoding="utf-8") as file:
         return dict(re.findall(r"(?m)^(\w+)=(.*)$", file.read()))
 
 
-def has_unit(place: Any, name: str) -> bool:
+def has_unit(place: Place, name: str) -> bool:
     """Tells whether a unit is installed."""
     return os.path.exists(f"{place.root}{UNITS}/{name}")
 
 
-def words_of(line, instance, settings):
+def words_of(line: str, instance: str, settings: dict[str, str]) -> list[str]:
     """Returns the words of a command line, as systemd makes them: a word that is a variable alone is split."""
     found = []
     for word in line.replace("%i", instance).split(" "):
@@ -156,13 +169,15 @@ def words_of(line, instance, settings):
     return found
 
 
-def started(place, name, instance, settings, line="ExecStart"):
+def started(
+    place: Place, name: str, instance: str, settings: dict[str, str], line: str = "ExecStart"
+) -> subprocess.Popen[bytes]:
     """Runs a command line of a unit, within its limits, and returns the process."""
     unit = unit_of(place, name)
     compare(f"{name}: its user and its settings", ("couchd", SETTINGS), (unit["User"], unit["EnvironmentFile"]))
     memory = int(unit["LimitAS"].removesuffix("M")) << 20
 
-    def limited():
+    def limited() -> None:
         os.umask(int(unit["UMask"], 8))
         resource.setrlimit(resource.RLIMIT_AS, (memory, memory))
 
@@ -173,16 +188,16 @@ def started(place, name, instance, settings, line="ExecStart"):
 
 
 @contextlib.contextmanager
-def serving(place, port, settings):
+def serving(place: Place, port: int, settings: dict[str, str]) -> Iterator[None]:
     """Has the installed server serve the file of a port."""
     process = started(place, "couchd@.service", str(port), settings)
     if "ExecStartPost" in unit_of(place, "couchd@.service") and place.has_users:
         waiting = started(place, "couchd@.service", str(port), {**settings, "MAINPID": str(process.pid)}, "ExecStartPost")
-        compare("couchd@: what waits for it", (0, b""), (waiting.wait(60), waiting.stderr.read()))
+        compare("couchd@: what waits for it", (0, b""), (waiting.wait(60), present(waiting.stderr).read()))
         with contextlib.closing(socket.create_connection(("127.0.0.1", port), 1)):
             pass
-    line = process.stdout.readline().decode()
-    compare("couchd@: it listens", (f"listening 127.0.0.1:{port}\n", ""), (line, "" if line else process.stderr.read().decode()))
+    line = present(process.stdout).readline().decode()
+    compare("couchd@: it listens", (f"listening 127.0.0.1:{port}\n", ""), (line, "" if line else present(process.stderr).read().decode()))
     if not line:
         sys.exit(finish())
     yield
@@ -190,7 +205,7 @@ def serving(place, port, settings):
     process.wait(60)
 
 
-def asked(port, secret, method, path, body=None, user=ADMIN):
+def asked(port: int, secret: str, method: str, path: str, body: Json = None, user: str = ADMIN) -> tuple[int, Json]:
     """Asks a server as a user, and returns the status and the value of the reply."""
     with contextlib.closing(http.client.HTTPConnection("127.0.0.1", port, timeout=60)) as made:
         headers = {"X-Auth-CouchDB-UserName": user, "X-Auth-CouchDB-Token": token_of(secret, user)}

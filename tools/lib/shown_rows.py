@@ -1,16 +1,16 @@
 """Says what a server shows of the rows of a file that somebody may have edited, in plain python.
 
-Each page shows the rows that docs/OPERATE.md, 'The file' has for it, and nothing else: lists those of `docs`, a
+Each page shows the rows that crates/tables/README.md, 'Tables' has for it, and nothing else: lists those of `docs`, a
 document those of `revs`, a view those of `decls` and `entries`. Whether rows agree with one another isn't looked at
 here. It was written from that page and from docs/PROFILE.md, and has nothing of the program.
 """
 from __future__ import annotations
 
 import json
-from typing import Any
 
 from lib.server import text_of
 from lib.store_rows import Row, Rows
+from lib.values import Json, Object
 from model import Document
 
 # Pages by id and by key end before these bytes: no id is a text from there on, and no key begins so.
@@ -21,7 +21,7 @@ MISSING = {"error": "not_found", "reason": "missing"}
 Reply = tuple[int, bytes]
 
 
-def found(value: Any) -> Reply:
+def found(value: Json) -> Reply:
     """Returns the reply that shows a value."""
     return 200, text_of(value)
 
@@ -46,7 +46,7 @@ def page_of(rows: Rows, database: Row, page: str) -> Reply:
     if page == "_security":
         return found(json.loads(security))
     if page == "_all_docs":
-        return found(list_of([by_id(row) for row in sorted(documents, key=lambda row: row[2]) if is_live(row)]))
+        return found(list_of([by_id(row) for row in sorted(documents, key=lambda row: bytes(row[2])) if is_live(row)]))
     if page.startswith("_changes"):
         return found(changes(rows, documents, sequence))
     if page.startswith("_local/"):
@@ -57,7 +57,8 @@ def page_of(rows: Rows, database: Row, page: str) -> Reply:
 
 def is_live(row: Row) -> bool:
     """Tells whether a document is one of those that lists by id show."""
-    return row[5] == 0 and row[2] < ID_END
+    _, _, id, _, _, deleted = row
+    return bool(deleted == 0 and id < ID_END)
 
 
 def information(name: bytes, documents: list[Row], sequence: int) -> Reply:
@@ -66,13 +67,13 @@ def information(name: bytes, documents: list[Row], sequence: int) -> Reply:
     return found({"db_name": name.decode(), "doc_count": marks.count(0), "doc_del_count": marks.count(1), "update_seq": sequence})
 
 
-def by_id(row: Row) -> dict[str, Any]:
+def by_id(row: Row) -> Object:
     """Returns the row of a document in a list by id."""
     id = row[2].decode(errors="replace")
     return {"id": id, "key": id, "value": {"rev": row[4]}}
 
 
-def list_of(rows: list[dict[str, Any]]) -> dict[str, Any]:
+def list_of(rows: list[Object]) -> Object:
     """Returns a whole list."""
     return {"offset": 0, "rows": rows, "total_rows": len(rows)}
 
@@ -88,7 +89,7 @@ def history_of(rows: Rows, number: int, id: bytes) -> Document:
     return document
 
 
-def members_of(body: str | None) -> dict[str, Any]:
+def members_of(body: str | None) -> Object:
     """Returns the members of a body, and none of what is no object."""
     try:
         value = json.loads(body or "")
@@ -109,27 +110,28 @@ def leaves_of(document: Document) -> list[str]:
     return sorted(found_leaves, key=lambda one: (not document.held.get(one, (False,))[0], parts_of(one)), reverse=True)
 
 
-def leaves(rows: Rows, number: int, id: str) -> list[dict[str, Any]]:
+def leaves(rows: Rows, number: int, id: str) -> list[Object]:
     """Returns each leaf of a document with its path, as far as that is known."""
     document = history_of(rows, number, id.encode())
     return [{"ok": shown(document, id, one)} if one in document.held else {"missing": one} for one in leaves_of(document)]
 
 
-def shown(document: Document, id: str, revision: str) -> dict[str, Any]:
+def shown(document: Document, id: str, revision: str) -> Object:
     """Returns a revision with its path."""
     deleted, body = document.held[revision]
-    path, one = [], revision
-    while one in document.parents:
+    path: list[str] = []
+    one: str | None = revision
+    while one is not None and one in document.parents:
         path.append(one.partition("-")[2])
         one = document.parents[one]
     mark = {"_deleted": True} if deleted else {}
     return {**body, **mark, "_id": id, "_rev": revision, "_revisions": {"ids": path, "start": parts_of(revision)[0]}}
 
 
-def changes(rows: Rows, documents: list[Row], sequence: int) -> dict[str, Any]:
+def changes(rows: Rows, documents: list[Row], sequence: int) -> Object:
     """Returns the documents by their sequences, with their leaves."""
     results = []
-    for _, number, id, at, _, deleted in sorted(documents, key=lambda row: row[3]):
+    for _, number, id, at, _, deleted in sorted(documents, key=lambda row: int(row[3])):
         mark = {"deleted": True} if deleted else {}
         if at > 0:
             listed = [{"rev": one} for one in listed_leaves(history_of(rows, number, id))]

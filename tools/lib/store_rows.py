@@ -1,6 +1,6 @@
 """Says which rows of a file no store has, and what node the others hold, in plain python, for tools/file_check.
 
-It was written from docs/OPERATE.md 'The file' and from docs/PROFILE.md, and has nothing of the program. Rows are read
+It was written from crates/tables/README.md, 'Tables', and from docs/PROFILE.md, and has nothing of the program. Rows are read
 by SQLite's own library.
 """
 from __future__ import annotations
@@ -14,7 +14,7 @@ import sqlite3
 from collections.abc import Callable, Iterator
 from typing import Any, NamedTuple
 
-from lib.keys import is_path, key_bytes
+from lib.keys import key_bytes
 from lib.server import text_of
 from model import Database, Document, Node, are_indexes
 
@@ -36,7 +36,7 @@ Rows = dict[str, list[Row]]
 
 
 class Wrong(NamedTuple):
-    """A row that no store has: its table, its number there, and the words of OPERATE that say what is wrong with it."""
+    """A row that no store has: its table, its number there, and the words of OPERATE-BACKUP that say what is wrong with it."""
 
     table: str
     key: int
@@ -205,8 +205,8 @@ class Indexes:
     def __init__(self, rows: Rows, databases: dict[int, Database]) -> None:
         # The fields of each declared index, and its number, by its database, its design document and its name.
         self.fields = {(db, *place): fields for db, database in databases.items() for place, fields in declared_in(database)}
-        self.numbers = {tuple(place): number for number, *place, _ in rows["decls"]}
-        self.entries = {tuple(entry) for _, *entry in rows["entries"]}
+        self.numbers = {(db, design, name): number for number, db, design, name, _ in rows["decls"]}
+        self.entries = {(number, key, id) for _, number, key, id in rows["entries"]}
         self.due = {entry for place in self.fields.keys() & self.numbers.keys() for entry in self.due_in(place, databases[place[0]])}
 
     def due_in(self, place: tuple[int, bytes, bytes], database: Database) -> list[tuple[int, bytes, bytes]]:
@@ -215,8 +215,8 @@ class Indexes:
 
     def declaration_words(self, row: Row) -> set[str]:
         """Returns what is wrong with the row of an index."""
-        _, *place, fields = row
-        wanted = self.fields.get(tuple(place))
+        _, db, design, name, fields = row
+        wanted = self.fields.get((db, design, name))
         return words_where(("index", wanted is None or value_in(fields) != wanted))
 
     def document_words(self, row: Row) -> set[str]:
@@ -248,7 +248,7 @@ def databases_in(rows: Rows) -> dict[int, tuple[str, Database]]:
     """Returns the databases of rows of which none is wrong but those of indexes, by their numbers, with their names."""
     found = {}
     for number, name, security, sequence in rows["dbs"]:
-        database = Database()
+        database = Database(name.decode())
         database.security, database.sequence = json.loads(security), sequence
         found[number] = name.decode(), database
     histories = histories_in(rows)

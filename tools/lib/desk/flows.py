@@ -32,7 +32,7 @@ def is_flowing(tried: dict[str, float]) -> bool:
 
 
 def check_flowing(place: Place, desk: Desk) -> None:
-    """Three hundred rows: the first one soon, the last one nearly as soon as the requests alone allow."""
+    """Opens a list of 300 rows: the first stands soon, the last nearly as soon as the requests alone allow."""
     fill(place)
     for _ in range(TRIES):
         tried = try_once(place, desk)
@@ -44,7 +44,7 @@ def check_flowing(place: Place, desk: Desk) -> None:
 
 
 def check_costs(place: Place, desk: Desk) -> None:
-    """A document costs one request at most, and one without a conflict none; the list says how far it is."""
+    """Counts requests: a document costs one at most, and one without a conflict none; the list says how far it is."""
     if place.ask("GET", "/flow")[0] == 404:
         fill(place)
     desk.forget("flow")

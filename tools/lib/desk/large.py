@@ -1,24 +1,24 @@
 """Documents of 1 MB: each view of one within five seconds, or a sign of what it waits for."""
 import json
-from typing import Any
 
 from lib.checks import compare
 from lib.desk.long_lists import TRIES, shown_within
 from lib.desk.page import Desk
 from lib.desk.place import Place, revision
 from lib.desk.scripts import SETTLED_VIEW
+from lib.values import Object
 
 # In milliseconds: how long a view may take.
 BOUND = 5000
-# What OPERATE says of how many lines are shown first, and the brackets around them.
+# What OPERATE-DESK says of how many lines are shown first, and the brackets around them.
 MOST_LINES = 2002
 # A line of a difference is cut behind 10,000 characters.
 LONGEST_LINE = 10_100
 
 
-def bodies(tag: str) -> dict[str, dict[str, Any]]:
+def bodies(tag: str) -> dict[str, Object]:
     """Returns bodies of nearly 1 MB of several forms, whose values differ by a tag."""
-    deep: dict[str, Any] = {"leaf": tag * 400_000}
+    deep: Object = {"leaf": tag * 400_000}
     for number in range(90):
         deep = {"d": deep, "p": "x" * 5_000}
     return {
@@ -31,7 +31,7 @@ def bodies(tag: str) -> dict[str, dict[str, Any]]:
 
 
 def check_large(place: Place, desk: Desk) -> None:
-    """A document of 1 MB is shown and edited within five seconds; parts of it are shown first, and others after a press."""
+    """Opens and edits a document of 1 MB within five seconds: parts are shown first, and others after a press."""
     for name, body in bodies("a").items():
         size = len(json.dumps(body, separators=(",", ":")))
         compare(f"large: {name} has nearly 1 MB", True, 800_000 < size < 1_000_000)
@@ -49,7 +49,7 @@ def check_large(place: Place, desk: Desk) -> None:
 
 
 def check_large_settled(place: Place, desk: Desk) -> None:
-    """Two versions of 1 MB each are asked for before they are fetched, and can then be settled within ten seconds."""
+    """Settles two versions of 1 MB each within ten seconds, which are asked for before they are fetched."""
     versions = {tag: bodies(tag) for tag in "rab"}
     for name in versions["r"]:
         leaves = [revision(f"{tag}2", "r1", **versions[tag][name]) for tag in "ab"]

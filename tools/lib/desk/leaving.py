@@ -17,7 +17,7 @@ def conflicting_thrice(place: Place, name: str) -> None:
 
 
 def check_left_for_another(place: Place, desk: Desk) -> None:
-    """A view whose follower waits for a hanging server: nothing of it can be pressed, and no version goes."""
+    """Leaves a view whose follower waits for a hanging server: nothing of it can be pressed, and no version goes."""
     conflicting_thrice(place, "three")
     conflicting(place, "week", "left")
     desk.go("left", "settle", "three")
@@ -41,7 +41,7 @@ def check_left_for_another(place: Place, desk: Desk) -> None:
 
 
 def check_each_view(place: Place, desk: Desk) -> None:
-    """Each view that is left while the server hangs: nothing of it can be pressed or typed in."""
+    """Leaves each view while the server hangs: nothing of it can be pressed or typed in."""
     conflicting(place, "each", "left")
     for name in VIEWS:
         desk.go("left", *name.split("/"))
@@ -52,7 +52,7 @@ def check_each_view(place: Place, desk: Desk) -> None:
 
 
 def check_stopped_while_settling(place: Place, desk: Desk) -> None:
-    """A settle that is stopped before the server replies: what was typed stays, no version goes, and it can be made again."""
+    """Stops a settle before the server replies: what was typed stays, no version goes, and it can be made again."""
     conflicting(place, "halted", "left")
     desk.go("left", "settle", "halted")
     desk.retype("textarea", '{"typed": 1}')
@@ -72,7 +72,7 @@ def check_stopped_while_settling(place: Place, desk: Desk) -> None:
 
 
 def check_left_while_settling(place: Place, desk: Desk) -> None:
-    """A settle whose view is left before the server replies: nothing is deleted, and the reader is told."""
+    """Leaves a settle before the server replies: nothing is deleted, and the reader is told."""
     conflicting_thrice(place, "leaving")
     desk.go("left", "settle", "leaving")
     desk.find("button", "Settle")
@@ -114,7 +114,7 @@ def check_late_replies(place: Place, desk: Desk) -> None:
 
 
 def check_waiting(place: Place, desk: Desk) -> None:
-    """A reply that takes long: a sign, and two ways to stop it; a quick one has no sign."""
+    """Waits for a long reply, which has a sign and two ways to stop it; a quick one has no sign."""
     place.made("PUT", "/left/waiting", {"v": 1})
     for view, way in [("documents", "button"), ("changes", "key")]:
         with place.stopped():
@@ -158,12 +158,12 @@ def quick_has_sign(desk: Desk) -> bool:
         desk.go("left", "find", text="Find")
         took, has_sign = desk.run(script, "#/left/local", "Local documents") if number % 2 else desk.run(script, "#/left/changes", "Changes")
         if took < 200:
-            return has_sign
+            return bool(has_sign)
     return False
 
 
 def check_typed_text(place: Place, desk: Desk) -> None:
-    """What was typed, or taken by members, is asked for before it goes: by a link, back, and where the page is closed."""
+    """Leaves typed text, or what members were taken: it is asked for, by a link, back, and where the page closes."""
     place.made("PUT", "/left/kept", {"v": 1})
     conflicting(place, "taken", "left")
     is_asked = "const asked = new Event('beforeunload', {cancelable: true}); dispatchEvent(asked); return asked.defaultPrevented;"
@@ -198,7 +198,7 @@ def check_typed_text(place: Place, desk: Desk) -> None:
 
 
 def check_query_kept(place: Place, desk: Desk) -> None:
-    """A query that ran is found again by going back."""
+    """Goes back to a query that ran."""
     place.made("PUT", "/left/found", {"w": 2})
     desk.go("left", "find")
     desk.retype("textarea", '{"selector": {"w": 2}, "limit": 3}')

@@ -7,7 +7,7 @@ from lib.server import ADMIN
 
 
 def check_databases(place: Place, desk: Desk) -> None:
-    """Server admins see the databases, others name theirs; each sees who he is, and what is refused."""
+    """Opens the lists: server admins see databases, others name theirs; each sees who he is, and what is refused."""
     desk.go()
     desk.find("#user", f"you are {ADMIN}")
     compare("databases: the list", place.ask("GET", "/_all_dbs")[1], desk.links("table.databases a"))

@@ -28,7 +28,7 @@ def shown_within(bound: int, desk: Desk, what: str, words: list[str], css: str, 
 
 
 def check_long(place: Place, desk: Desk) -> None:
-    """Three hundred conflicts, a path of 20,000 revisions, replies of more than 1 MB, and a list that is stopped."""
+    """Opens 300 conflicts, a path of 20,000 revisions and replies of more than 1 MB, and stops a list."""
     documents = [{"_id": f"c{number:03}", **revision(name, "r1", v=name)} for number in range(300) for name in ["a2", "b2"]]
     place.push("many", *documents)
     paths = [f"/many/c{number:03}?open_revs=all" for number in range(300)]

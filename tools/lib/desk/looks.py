@@ -6,10 +6,11 @@ from lib.checks import compare
 from lib.desk.page import ENTER, Desk
 from lib.desk.place import GREATEST, MERGED, Place, conflicting, revision
 from lib.desk.scripts import CONTRAST, OVERLAPS, UNLABELLED
+from lib.values import Object
 
 
 def check_keys(place: Place, desk: Desk) -> None:
-    """A conflict is settled by keys alone."""
+    """Settles a conflict by keys alone."""
     conflicting(place, "keys")
     desk.go()
     for text in ["notes", "keys"]:
@@ -30,7 +31,7 @@ PLACES += ["notes/find", "notes/views", "notes/access", "notes/local/phone"]
 
 
 def check_looks(place: Place, desk: Desk) -> None:
-    """Each view: labels, both colour schemes, and nothing over another at 1200 and at 400 pixels."""
+    """Looks at each view: labels, both colour schemes, and nothing over another at 1200 and at 400 pixels."""
     for name in PLACES:
         words = name.split("/") if name else []
         desk.go(*words)
@@ -54,13 +55,15 @@ def check_looks(place: Place, desk: Desk) -> None:
 def seed_pictures(place: Place) -> None:
     """Makes documents for the pictures, with names of revisions as a server gives them."""
     names = [hashlib.md5(f"week {number}".encode()).hexdigest() for number in range(60)]
-    base = {"day": "Monday", "guests": ["Ann", "Bo"], "place": {"house": "North", "room": 12}, "title": "Week 48"}
+    base: Object = {"day": "Monday", "guests": ["Ann", "Bo"], "place": {"house": "North", "room": 12}, "title": "Week 48"}
+    tuesday: Object = {**base, "day": "Tuesday", "budget": GREATEST, "place": {"house": "South", "room": 12}}
+    friday: Object = {**base, "day": "Friday", "guests": ["Ann", "Bo", "Cy"], "place": {"house": "North", "room": 7}}
     place.made("PUT", "/plans")
     place.push(
         "plans",
         {"_id": "week", **revision(*names[2::-1], **base)},
-        {"_id": "week", **revision(names[3], *names[2::-1], **{**base, "day": "Tuesday", "budget": GREATEST, "place": {"house": "South", "room": 12}})},
-        {"_id": "week", **revision(*names[11:4:-1], *names[2::-1], **{**base, "day": "Friday", "guests": ["Ann", "Bo", "Cy"], "place": {"house": "North", "room": 7}})},
+        {"_id": "week", **revision(names[3], *names[2::-1], **tuesday)},
+        {"_id": "week", **revision(*names[11:4:-1], *names[2::-1], **friday)},
         {"_id": "week", **revision(*names[31:28:-1], names[0], _deleted=True)},
     )
     for number, name in enumerate(["menu", "shifts", "garden", "fleet", "keys"], 40):

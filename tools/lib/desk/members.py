@@ -1,15 +1,15 @@
 """Merges by members: each member from either side with one press, nested ones too, and two of thirty versions at a time."""
 import json
-from typing import Any
 
 from lib.checks import compare
 from lib.desk.page import ENTER, Desk
 from lib.desk.place import GREATEST, Place, revision
 from lib.desk.scripts import MEMBERS
+from lib.values import Json, Object
 
-BASE = {"address": {"city": "Bonn", "street": {"name": "x", "no": 1}}, "day": "Monday", "gone": 1, "same": [1], "map": {"__proto__": {"a": 1}}}
+BASE: Object = {"address": {"city": "Bonn", "street": {"name": "x", "no": 1}}, "day": "Monday", "gone": 1, "same": [1], "map": {"__proto__": {"a": 1}}}
 LEFT = {**BASE, "address": {"city": "Ulm", "street": {"name": "z", "no": 2}}}
-RIGHT = {"address": {"city": "Kiel", "street": {"name": "x", "no": 1}}, "day": "Friday", "new": GREATEST, "same": [1], "map": {"__proto__": {"a": 2}}}
+RIGHT: Object = {"address": {"city": "Kiel", "street": {"name": "x", "no": 1}}, "day": "Friday", "new": GREATEST, "same": [1], "map": {"__proto__": {"a": 2}}}
 # What the table says: the member, the value of each side with what it did to the ancestor, and which of them is taken.
 ADDRESS = ["address", '{"city":"Ulm","street":{"name":"z","no":2}} changed', '{"city":"Kiel","street":{"name":"x","no":1}} changed', "left"]
 INNER = [["address.city", '"Ulm" changed', '"Kiel" changed', "left"], ["address.street", '{"name":"z","no":2} changed', '{"name":"x","no":1}', "left"]]
@@ -21,7 +21,7 @@ OTHERS = [
     ["new", "no such member", f"{GREATEST} added", "right"],
 ]
 # Presses one after the other, and what each of them changes of the merged body; None takes a member away.
-PRESSES = [
+PRESSES: list[tuple[str, Object]] = [
     ('address.city: take "Kiel" of 2-a2 conflict', {"address": {"city": "Kiel", "street": {"name": "z", "no": 2}}}),
     ("address.street.no: take 1 of 2-a2", {"address": {"city": "Kiel", "street": {"name": "z", "no": 1}}}),
     ("gone: take 1 of 2-b2 winner", {"gone": 1}),
@@ -33,7 +33,7 @@ TAKEN = {"address": "", "address.city": "right", "address.street": "", "address.
 TAKEN |= {"day": "right", "gone": "left", "map": "left", "map.__proto__": "left", "new": "right"}
 
 
-def merged_body(desk: Desk) -> Any:
+def merged_body(desk: Desk) -> Json:
     return json.loads(desk.find("textarea").value())
 
 
@@ -43,7 +43,7 @@ def press_member(desk: Desk, label: str) -> None:
 
 
 def check_members(place: Place, desk: Desk) -> None:
-    """Each differing member is listed with what each side did to it, and is taken from either side."""
+    """Takes each differing member from either side; it is listed with what each side did to it."""
     place.push("members", *[{"_id": "tree", **one} for one in [revision("r1", **BASE), revision("b2", "r1", **LEFT), revision("a2", "r1", **RIGHT)]])
     desk.go("members", "settle", "tree")
     proposed = {**RIGHT, "address": LEFT["address"]}
@@ -80,7 +80,7 @@ def check_members_typed(place: Place, desk: Desk) -> None:
 
 
 def check_without_ancestor(place: Place, desk: Desk) -> None:
-    """Without a common ancestor the marks are against the winner."""
+    """Merges without a common ancestor: the marks are against the winner."""
     place.push("members", {"_id": "rootless", **revision("a1", day="Friday", x=1)}, {"_id": "rootless", **revision("b1", day="Sunday", y=2)})
     desk.go("members", "settle", "rootless")
     desk.find("p.proposal", "Marked are changes to the winner 1-b1")
@@ -92,7 +92,7 @@ def check_without_ancestor(place: Place, desk: Desk) -> None:
 
 
 def check_thirty(place: Place, desk: Desk) -> None:
-    """Of thirty versions two are compared at a time, which lists choose; all others go."""
+    """Chooses from lists which two of thirty versions are compared; all others go."""
     place.push("members", *[{"_id": "thirty", **revision(f"v{number:02}", n=number, same=1)} for number in range(30)])
     desk.go("members", "settle", "thirty")
     sides = "return [...document.querySelectorAll('section.side h3')].map(one => one.textContent)"

@@ -85,7 +85,7 @@ def check_differences(desk: Desk, chance: random.Random) -> None:
 
 
 def check_values_at_paths(desk: Desk, chance: random.Random) -> None:
-    """The members in which two bodies differ, and bodies with another value at a path, against python's own."""
+    """Compares the members in which two bodies differ, and bodies with another value at a path, with python's own."""
     pairs = [(some_value(chance, 2, object_only=True), some_value(chance, 2, object_only=True)) for _ in range(100)]
     pairs += [(one, some_value(chance, 2, near=one, object_only=True)) for one, _ in pairs]
     texts = [[json.dumps(one), json.dumps(other)] for one, other in pairs]
@@ -98,7 +98,7 @@ def check_values_at_paths(desk: Desk, chance: random.Random) -> None:
 
 
 def check_modules(_: Place, desk: Desk) -> None:
-    """The modules without the page, by rows, against python's own results."""
+    """Compares the modules without the page, by rows, with python's own results."""
     chance = random.Random(77)
     check_json(desk, chance)
     check_requests(desk, chance)

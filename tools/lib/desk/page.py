@@ -1,9 +1,9 @@
 """A browser that has the desk open."""
 import json
-from typing import Any
 
 from lib.desk.place import Place
 from lib.server import ADMIN
+from lib.values import Json
 from lib.webdriver import Browser, Element, Failed
 
 TAB, ENTER, ESCAPE, ALT = "\ue004", "\ue007", "\ue00c", "\ue00a"
@@ -39,7 +39,8 @@ class Desk(Browser):
 
     def heading(self) -> str:
         """Returns the heading of the view on the screen, or "" while there is none."""
-        return self.run("return document.querySelector('#view h2')?.textContent ?? ''")
+        heading: str = self.run("return document.querySelector('#view h2')?.textContent ?? ''")
+        return heading
 
     def press_button(self, text: str) -> None:
         self.find("button", text).click()
@@ -53,7 +54,7 @@ class Desk(Browser):
         field.clear()
         field.type(text)
 
-    def body(self) -> Any:
+    def body(self) -> Json:
         return json.loads(self.find("pre.body").text())
 
     def links(self, css: str) -> list[str]:
@@ -62,7 +63,8 @@ class Desk(Browser):
     def processor_time(self) -> float:
         """Returns how many seconds of a processor the page has taken."""
         self.emulate("Performance.enable")
-        return next(one["value"] for one in self.emulate("Performance.getMetrics")["metrics"] if one["name"] == "ProcessTime")
+        metrics = self.emulate("Performance.getMetrics")["metrics"]
+        return float(next(one["value"] for one in metrics if one["name"] == "ProcessTime"))
 
     def tab_to(self, text: str) -> None:
         """Presses the key that goes on, until the element with this text has the focus."""

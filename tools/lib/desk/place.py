@@ -5,16 +5,16 @@ import http.client
 import json
 import os
 import shutil
-import signal
 import tempfile
 import time
 from collections.abc import Iterator
-from typing import Any
 from urllib.parse import quote
 
 from lib.checks import compare
 from lib.nginx import deployed
-from lib.server import ADMIN, SECRET, TOP, Server, free_port, proxy_lines, start_nginx, text_of, token_of
+from lib.server import ADMIN, SECRET, TOP, Server, free_port, proxy_lines, start_nginx, text_of
+from lib.settings import token_of
+from lib.values import Json, Object
 
 GREATEST, LEAST = 2**64 - 1, -(2**63)
 USERS = [ADMIN, "alice", "bob", "zo\u00eb"]
@@ -53,24 +53,24 @@ class Place:
         self.server.stopped("the server of the desk")
         shutil.rmtree(self.room, ignore_errors=True)
 
-    def ask(self, method: str, path: str, body: Any = None, user: str = ADMIN) -> tuple[int, Any]:
+    def ask(self, method: str, path: str, body: Json = None, user: str = ADMIN) -> tuple[int, Json]:
         """Asks the server itself, and returns the status and the value of the reply."""
         with contextlib.closing(http.client.HTTPConnection("127.0.0.1", self.server.port, timeout=60)) as made:
             made.request(method, path, None if body is None else text_of(body), dict(line.split(": ") for line in proxy_lines(user)))
             reply = made.getresponse()
             return reply.status, json.loads(reply.read())
 
-    def made(self, method: str, path: str, body: Any = None) -> Any:
+    def made(self, method: str, path: str, body: Json = None) -> Json:
         """Asks the server, and counts a refusal as a failure."""
         status, value = self.ask(method, path, body)
         compare(f"{method} {path[:80]}", True, status < 300)
         return value
 
-    def push(self, db: str, *documents: dict[str, Any]) -> None:
+    def push(self, db: str, *documents: Object) -> None:
         """Brings revisions as a replicator does."""
         compare("a push", [], self.made("POST", f"/{db}/_bulk_docs", {"new_edits": False, "docs": documents}))
 
-    def living(self, db: str, identifier: str) -> dict[str, dict[str, Any]]:
+    def living(self, db: str, identifier: str) -> dict[str, Object]:
         """Returns the leaves that are not deleted, by revision, without ids and revisions."""
         leaves = [one["ok"] for one in self.ask("GET", f"/{db}/{identifier}?open_revs=all")[1]]
         return {leaf["_rev"]: {name: leaf[name] for name in leaf if not name.startswith("_")} for leaf in leaves if not leaf.get("_deleted")}
@@ -99,11 +99,11 @@ class Place:
     @contextlib.contextmanager
     def stopped(self) -> Iterator[None]:
         """Has the server's process hang, and go on at the end."""
-        self.server.process.send_signal(signal.SIGSTOP)
+        self.server.pause()
         try:
             yield
         finally:
-            self.server.process.send_signal(signal.SIGCONT)
+            self.server.go_on()
 
     def settle_down(self) -> None:
         """Waits until the server has done what it was sent before, and what a reply could have a page send."""
@@ -118,7 +118,7 @@ class Place:
         return (int(fields[11]) + int(fields[12])) / os.sysconf("SC_CLK_TCK")
 
 
-def revision(name: str, *back: str, **body: Any) -> dict[str, Any]:
+def revision(name: str, *back: str, **body: Json) -> Object:
     """Returns a document of a revision with its path, as a replicator brings it."""
     number = len(back) + 1
     return {"_rev": f"{number}-{name}", "_revisions": {"start": number, "ids": [name, *back]}, **body}

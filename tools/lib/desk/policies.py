@@ -30,7 +30,7 @@ class Elsewhere(http.server.BaseHTTPRequestHandler):
 
 
 def check_forged(place: Place, desk: Desk) -> None:
-    """A form of another site is refused, and writes nothing; a page of another site doesn't frame the desk."""
+    """Sends a form of another site, which is refused and writes nothing; a page there doesn't frame the desk."""
     with http.server.ThreadingHTTPServer(("127.0.0.1", 0), Elsewhere) as other:
         threading.Thread(target=other.serve_forever, daemon=True).start()
         for host in ["localhost", "127.0.0.1"]:
@@ -43,7 +43,7 @@ def check_forged(place: Place, desk: Desk) -> None:
 
 
 def check_policy(place: Place, desk: Desk) -> None:
-    """What the page may not do: text as markup, scripts of others, requests elsewhere."""
+    """Tries what the page may not do: text as markup, scripts of others, requests elsewhere."""
     refused = desk.run("try { document.querySelector('main').innerHTML = '<b>x</b>'; return 'done'; } catch (error) { return error.name; }")
     compare("policy: markup", "TypeError", refused)
     head = desk.run("const reply = await fetch(location.origin + '/_desk/desk.js'); return [...reply.headers].map(pair => pair.join(': '))")

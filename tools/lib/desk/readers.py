@@ -1,18 +1,17 @@
 """Keyboard and screen reader: what Chromium's own tree of accessibility says of each view, and where its keys lead."""
-from typing import Any
-
 from lib.checks import compare
 from lib.desk.looks import PLACES
 from lib.desk.page import ENTER, TAB, Desk
 from lib.desk.place import Place, conflicting, revision
 from lib.desk.scripts import FOCUSED, REACHABLE, SIGNS
+from lib.values import Object
 
 CONTROLS = ["button", "link", "textbox", "combobox", "checkbox", "progressbar", "DisclosureTriangle"]
 GROUPS = ["navigation", "region", "dialog"]
 SEVERAL = ["readers", "readers/settle/nested", "readers/settle/thirty"]
 
 
-def nodes_of(desk: Desk) -> list[dict[str, Any]]:
+def nodes_of(desk: Desk) -> list[Object]:
     """Returns the nodes of the page that screen readers meet: role, name, and the properties that they tell."""
     desk.emulate("Accessibility.enable")
     nodes = [node for node in desk.emulate("Accessibility.getFullAXTree")["nodes"] if not node.get("ignored")]
@@ -21,7 +20,7 @@ def nodes_of(desk: Desk) -> list[dict[str, Any]]:
 
 
 def check_names(what: str, desk: Desk) -> None:
-    """Each control and each part has a name; controls of one name do the same; the heading is there."""
+    """Compares names: each control and part has one, controls of one name do the same, and the heading is there."""
     nodes = nodes_of(desk)
     compare(f"{what}: nodes without a name", [], [node["role"] for node in nodes if node["role"] in CONTROLS + GROUPS and not node["name"]])
     compare(f"{what}: there is something to press", True, any(node["role"] == "link" for node in nodes))
@@ -34,7 +33,7 @@ def check_names(what: str, desk: Desk) -> None:
 
 
 def check_order(what: str, desk: Desk) -> None:
-    """The key that goes on leads to each control, downwards and to the right, and shows where it is."""
+    """Presses the key that goes on: it leads to each control, downwards and to the right, and shows where it is."""
     wanted = desk.run(REACHABLE)
     desk.run("document.activeElement.blur(); document.querySelector('h1 a').focus()")
     seen = [desk.run(FOCUSED)]
@@ -51,7 +50,7 @@ def check_order(what: str, desk: Desk) -> None:
 
 
 def check_views(place: Place, desk: Desk) -> None:
-    """Each view: names, the order of focus, and signs beside colours."""
+    """Looks at each view: names, the order of focus, and signs beside colours."""
     place.made("PUT", "/readers")
     inner = {name: {"city": name, "street": {"no": name}} for name in ["r1", "a2", "b2"]}
     place.push("readers", {"_id": "nested", **revision("r1", address=inner["r1"])}, *[{"_id": "nested", **revision(name, "r1", address=inner[name], v=name)} for name in ["a2", "b2"]])
@@ -72,7 +71,7 @@ def check_views(place: Place, desk: Desk) -> None:
 
 
 def check_moments(place: Place, desk: Desk) -> None:
-    """What is there for a moment: the next one, the question before a view is left, and the sign of waiting."""
+    """Looks at what is there for a moment: the next one, the question before a view is left, the sign of waiting."""
     for name in ["ask", "asked"]:
         conflicting(place, name, "left")
     desk.go("left")

@@ -8,7 +8,7 @@ from lib.desk.scripts import CELLS
 
 
 def check_settled(place: Place, desk: Desk) -> None:
-    """A merge of what doesn't touch, and a version that is kept unchanged."""
+    """Settles by a merge of what doesn't touch, and by a version that is kept unchanged."""
     before = len(place.writes())
     desk.go("notes", "settle", conflicting(place, "merge"))
     desk.find("p.proposal", "The changes don't overlap")

@@ -17,11 +17,11 @@ def fill(place: Place) -> None:
 
 def is_focused(desk: Desk, text: str) -> bool:
     """Tells whether the element that has the focus has this text."""
-    return desk.run("return document.activeElement.textContent") == text
+    return bool(desk.run("return document.activeElement.textContent") == text)
 
 
 def check_one_after_the_other(place: Place, desk: Desk) -> None:
-    """After one that is settled the next one is offered, with its number, by a press and by keys."""
+    """Settles one after the other: the next one is offered, with its number, by a press and by keys."""
     fill(place)
     desk.go("sitting")
     desk.find("[role=status]", f"{COUNT} found among {COUNT} documents")
@@ -50,7 +50,7 @@ def check_one_after_the_other(place: Place, desk: Desk) -> None:
 
 
 def check_list_keeps_its_place(place: Place, desk: Desk) -> None:
-    """The list is where it was; what was settled has left it, by a look-up of what changed alone; others' changes are in it."""
+    """Goes back to the list: it is where it was, by a look-up of what changed alone, and others' changes are in it."""
     if place.ask("GET", "/sitting")[0] == 404:
         fill(place)
     desk.resize(1200, 600)

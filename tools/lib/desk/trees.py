@@ -17,7 +17,7 @@ KINDS = {
 
 
 def check_tree(place: Place, desk: Desk) -> None:
-    """Each kind of revision has a class, a shape and a word; each held body can be read."""
+    """Opens a tree: each kind of revision has a class, a shape and a word; each held body can be read."""
     desk.go("notes", "document", "plan")
     desk.find("svg.tree")
     nodes = [tuple(node) for node in desk.run(NODES)]

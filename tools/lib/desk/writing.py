@@ -4,16 +4,17 @@ import json
 from lib.checks import compare
 from lib.desk.page import Desk
 from lib.desk.place import GREATEST, LEAST, Place
+from lib.values import Object
 
 
 def check_writing(place: Place, desk: Desk) -> None:
-    """New and edited documents; numbers at both ends; deleted, and written again."""
+    """Writes new and edited documents, with numbers at both ends; deletes one, and writes it again."""
     desk.go("notes", "new")
     desk.find("input").type("fresh")
     desk.retype("textarea", f'{{"big": {GREATEST}, "small": {LEAST}, "deep": {{"__proto__": {{"x": 1}}, "exact": 9007199254740993}}}}')
     desk.press_button("Save")
     desk.find("h3", "winner")
-    wanted = {"big": GREATEST, "small": LEAST, "deep": {"__proto__": {"x": 1}, "exact": 9007199254740993}}
+    wanted: Object = {"big": GREATEST, "small": LEAST, "deep": {"__proto__": {"x": 1}, "exact": 9007199254740993}}
     compare("new: what is stored", [wanted], list(place.living("notes", "fresh").values()))
     desk.find("main a", "Edit").click()
     text = desk.find("textarea").value()
@@ -35,7 +36,7 @@ def check_writing(place: Place, desk: Desk) -> None:
 
 
 def check_typed(place: Place, desk: Desk) -> None:
-    """What was typed is kept where somebody else saved first, and where the server refuses it."""
+    """Saves where somebody else saved first, and where the server refuses it: what was typed is kept."""
     place.made("PUT", "/notes/typed", {"v": 1})
     desk.go("notes", "document", "typed")
     desk.find("main a", "Edit").click()

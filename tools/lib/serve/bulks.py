@@ -1,4 +1,7 @@
 """Long bodies that ask for several documents."""
+from __future__ import annotations
+
+import argparse
 import json
 
 from lib.checks import compare
@@ -6,7 +9,7 @@ from lib.server import ADMIN, Server, answer_of, message, proxy_lines, request, 
 from model import Node
 
 
-def long_bulks():
+def long_bulks() -> list[tuple[str, bytes]]:
     """Returns bodies of more than 64 KiB that ask for several documents, and what is odd of each."""
     plain = [{"_id": f"l{number:05}", "v": [number, {"t": "\u00e4\n"}]} for number in range(2_500)]
     others = [{"_id": f"o{number:05}", "v": number} for number in range(3_500)]
@@ -27,7 +30,7 @@ def long_bulks():
     ]
 
 
-def long_bodies_refused():
+def long_bodies_refused() -> list[tuple[str, bytes, str]]:
     """Returns bodies of more than 64 KiB that ask for nothing, what is odd of each, and the reason that is told."""
     many = b",".join(b'{"_id":"n%05d"}' % number for number in range(6_000))
     return [
@@ -45,7 +48,7 @@ def long_bodies_refused():
     ]
 
 
-def check_long_bulks(options, file):
+def check_long_bulks(options: argparse.Namespace, file: str) -> None:
     """Bodies of several documents that are read one document after another: each reply is the model's, or the refusal, and so are the documents that are there then."""
     asked, refusals, node = long_bulks(), long_bodies_refused(), Node()
     server = Server(options, file, len(asked) + len(refusals) + 2)
@@ -60,6 +63,6 @@ def check_long_bulks(options, file):
     server.ended("long bulks")
 
 
-def check(options, folder):
+def check(options: argparse.Namespace, folder: str) -> None:
     """Sends long bodies."""
     check_long_bulks(options, f"{folder}/bulks.db")

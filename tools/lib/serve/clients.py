@@ -1,11 +1,16 @@
 """Clients that keep a connection open: python's, curl and nginx."""
+from __future__ import annotations
+
+import argparse
 import http.client
 import subprocess
 import tempfile
 
 from lib.checks import compare, find
 from lib.serve.connections import AT_ONCE
-from lib.server import Server, free_port, reply, start_nginx
+from lib.server import Server, free_port, start_nginx
+from lib.values import Reply
+
 
 KEEPALIVE = """
 upstream couchd {{ server 127.0.0.1:{server}; keepalive 8; }}
@@ -16,14 +21,14 @@ server {{
 """
 
 
-def answer_on(made):
+def answer_on(made: http.client.HTTPConnection) -> Reply:
     """Asks on a connection of python's, and returns the status and the body."""
     made.request("GET", "/")
     reply = made.getresponse()
     return reply.status, reply.read()
 
 
-def check_kept_open(options, file):
+def check_kept_open(options: argparse.Namespace, file: str) -> None:
     """Clients that keep a connection open, one each: python's, curl, and nginx, where these are installed."""
     curl, nginx = find("curl"), find("nginx")
     server = Server(options, file, 1 + bool(curl) + bool(nginx), at_once=AT_ONCE)
@@ -49,6 +54,6 @@ def check_kept_open(options, file):
     server.ended("connections that are kept open")
 
 
-def check(options, folder):
+def check(options: argparse.Namespace, folder: str) -> None:
     """Asks by each client that is installed."""
     check_kept_open(options, f"{folder}/kept.db")

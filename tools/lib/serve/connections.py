@@ -3,9 +3,11 @@ from __future__ import annotations
 
 import argparse
 import contextlib
+import functools
 import socket
 import threading
 import time
+from collections.abc import Callable, Iterable
 
 from lib.checks import compare
 from lib.server import WELCOME, Server, asks, connected, first_revision, received, reply, request, rest_of
@@ -13,7 +15,7 @@ from lib.server import WELCOME, Server, asks, connected, first_revision, receive
 AT_ONCE = 60
 
 
-def start_all(calls):
+def start_all(calls: Iterable[Callable[[], object]]) -> list[threading.Thread]:
     """Starts a thread for each call."""
     threads = [threading.Thread(target=call, daemon=True) for call in calls]
     for thread in threads:
@@ -21,7 +23,7 @@ def start_all(calls):
     return threads
 
 
-def drip(made, sent):
+def drip(made: socket.socket, sent: bytes) -> None:
     """Sends a byte a second, until the server ends the connection; nothing is told."""
     with contextlib.suppress(OSError):
         for byte in sent:
@@ -29,7 +31,7 @@ def drip(made, sent):
             time.sleep(1)
 
 
-def write_and_read(port, client, count, right):
+def write_and_read(port: int, client: int, count: int, right: list[str]) -> None:
     """Writes new documents on a connection of its own and reads each; those that are as wanted go into the list."""
     with contextlib.suppress(OSError), connected(port) as made:
         for number in range(count):
@@ -41,8 +43,8 @@ def write_and_read(port, client, count, right):
                 right.append(path)
 
 
-def check_clients(options, file):
-    """Fifty clients and one with a large document, beside three that are silent and one that sends a byte a second."""
+def check_clients(options: argparse.Namespace, file: str) -> None:
+    """Serves fifty clients and one with a large document, beside three silent ones and a slow one."""
     server = Server(options, file, 56, at_once=AT_ONCE)
     with contextlib.ExitStack() as open_ones:
         silent = [open_ones.enter_context(connected(server.port)) for _ in range(3)]
@@ -50,9 +52,9 @@ def check_clients(options, file):
         start_all([lambda: drip(dripping, request("GET", "/db/a"))])
         with connected(server.port) as made:
             asks("a database", made, request("PUT", "/db"), reply(201, {"ok": True}))
-        right = []
+        right: list[str] = []
         begun = time.monotonic()
-        threads = start_all([lambda client=client: write_and_read(server.port, client, 20, right) for client in range(50)])
+        threads = start_all([functools.partial(write_and_read, server.port, client, 20, right) for client in range(50)])
         with connected(server.port) as made:
             large = {"v": "x" * 3_900_000}
             asks("a large document beside fifty clients", made, request("PUT", "/db/large", large), reply(201, {"id": "large", "ok": True, "rev": first_revision(large)}))
@@ -68,8 +70,8 @@ def check_clients(options, file):
     server.ended("fifty clients")
 
 
-def check_takes_nothing(options, file):
-    """A client that reads nothing holds nobody, and takes no memory beyond the replies to two requests; then it reads all. One that asks for too much at once is closed."""
+def check_takes_nothing(options: argparse.Namespace, file: str) -> None:
+    """Reads nothing: that holds nobody, and takes no memory beyond two replies; who asks for too much is closed."""
     server = Server(options, file, 5, at_once=AT_ONCE)
     body = {"v": "x" * 200_000}
     with connected(server.port) as made:
@@ -100,12 +102,17 @@ def check_takes_nothing(options, file):
     server.ended("a client that takes nothing")
 
 
-def check_ahead(options, file):
-    """A thousand requests are sent ahead on one connection, cut anywhere; and the last reply reaches one who still sends."""
+def check_ahead(options: argparse.Namespace, file: str) -> None:
+    """Sends a thousand requests ahead on one connection, cut anywhere; the last reply reaches one who still sends."""
     server = Server(options, file, 2, at_once=2)
     sent = request("GET", "/", user=None) * 1000
+
+    def send_pieces() -> None:
+        for start in range(0, len(sent), 7777):
+            made.sendall(sent[start : start + 7777])
+
     with connected(server.port) as made:
-        start_all([lambda: [made.sendall(sent[start : start + 7777]) for start in range(0, len(sent), 7777)]])
+        start_all([send_pieces])
         compare("a thousand requests sent ahead", True, received(made, 1000 * len(WELCOME)) == WELCOME * 1000)
     with connected(server.port) as made:
         made.sendall(request("GET", "/", user=None, more=["Connection: close"]) + b"x" * 100_000)
@@ -113,8 +120,8 @@ def check_ahead(options, file):
     server.ended("requests sent ahead")
 
 
-def check_one_more(options, file):
-    """One connection more than may be open waits until another ends; after the last the server ends."""
+def check_one_more(options: argparse.Namespace, file: str) -> None:
+    """Opens one connection more than may be: it waits until another ends; after the last the server ends."""
     server = Server(options, file, 4, at_once=3)
     with contextlib.ExitStack() as open_ones:
         first = [open_ones.enter_context(connected(server.port)) for _ in range(3)]
@@ -145,7 +152,7 @@ def check_one_more(options, file):
 
 
 def check_sizes(options: argparse.Namespace, file: str) -> None:
-    """Whatever sizes the pieces of requests have, the replies are the same, and those to the last request the last."""
+    """Sends pieces of all sizes: the replies are the same, and those to the last request the last."""
     server = Server(options, file, 7, at_once=2)
     with connected(server.port) as made:
         asks("a database", made, request("PUT", "/db"), reply(201, {"ok": True}))
@@ -172,7 +179,7 @@ def two_requests() -> tuple[bytes, bytes]:
 
 
 def check_ends(options: argparse.Namespace, file: str) -> None:
-    """A client that ends after any byte has the replies to the requests that were whole, and nothing else."""
+    """Ends a client after each byte: it has the replies to the requests that were whole, and nothing else."""
     sent, wanted = two_requests()
     first = len(request("GET", "/db/a"))
     last = len(sent) - len(b"GET")
@@ -190,7 +197,7 @@ def check_ends(options: argparse.Namespace, file: str) -> None:
     server.ended("ends within requests")
 
 
-def check(options, folder):
+def check(options: argparse.Namespace, folder: str) -> None:
     """Opens many connections at once."""
     check_sizes(options, f"{folder}/sizes.db")
     check_ends(options, f"{folder}/ends.db")

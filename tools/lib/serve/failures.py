@@ -1,8 +1,10 @@
 """Lines on standard error by which a server with --log tells of each 500, and of its end."""
+from __future__ import annotations
+
+import argparse
 import email.utils
 import re
 import shlex
-import signal
 import socket
 import subprocess
 import time
@@ -19,7 +21,7 @@ END = "ended: all connections are served"
 SECRETS = ["swordfish", "Basic", "Token", "mallory", "revs=true"]
 
 
-def lines_of(what, server, since):
+def lines_of(what: str, server: Server, since: float) -> list[str]:
     """Returns what a server that has ended says of each line behind its time, which lies between the start and now."""
     said = []
     for line in server.said():
@@ -32,7 +34,7 @@ def lines_of(what, server, since):
     return said
 
 
-def compare_lines(what, server, since, wanted):
+def compare_lines(what: str, server: Server, since: float, wanted: list[str]) -> None:
     """Waits for the end of a server, and compares what it said of failures and of its end."""
     compare(f"{what}: the status", 0, server.process.wait(60))
     said = lines_of(what, server, since)
@@ -40,13 +42,13 @@ def compare_lines(what, server, since, wanted):
     compare(f"{what}: what no line may hold", [], [secret for secret in SECRETS if any(secret in line for line in said)])
 
 
-def secretive(method, path, body=None, last=False):
+def secretive(method: str, path: str, body: bytes | None = None, last: bool = False) -> bytes:
     """Returns a request with a body, a query and headers that are nobody else's."""
     lines = [*proxy_lines("root"), "Authorization: Basic swordfish", "X-Mallory: mallory", *(["Connection: close"] if last else [])]
     return message(method, f"{path}?revs=true" if method == "GET" else path, lines, body)
 
 
-def fill(options, file):
+def fill(options: argparse.Namespace, file: str) -> None:
     """Makes a file with a document and a design document whose bodies are then no JSON, and one that is whole."""
     server = Server(options, file, 1)
     with connected(server.port) as made:
@@ -58,8 +60,8 @@ def fill(options, file):
     change(file, "UPDATE revs SET body = '-' WHERE id <> CAST('b' AS BLOB)")
 
 
-def check_damaged(options, file, at_once):
-    """Each request for a damaged row has its line, in order; requests with other replies have none, whatever else they hold."""
+def check_damaged(options: argparse.Namespace, file: str, at_once: int | None) -> None:
+    """Asks for damaged rows: each request has its line, in order; those with other replies have none."""
     what, since = f"damaged rows, {at_once or 1} at once", time.time()
     server = Server(options, file, 2, at_once=at_once, more=["--log"])
     with connected(server.port) as made, connected(server.port) as other:
@@ -83,8 +85,8 @@ def check_damaged(options, file, at_once):
     compare_lines(what, server, since, [f"{line}: a damaged store" for line in lines] + [END])
 
 
-def check_full(options, file, at_once):
-    """Where the file can't grow, each write that fails has its line."""
+def check_full(options: argparse.Namespace, file: str, at_once: int | None) -> None:
+    """Writes where the file can't grow: each write that fails has its line."""
     what, since = f"a full disk, {at_once or 1} at once", time.time()
     server = Server(options, file, 1, limit=300_000, at_once=at_once, more=["--log"])
     failed = []
@@ -104,8 +106,8 @@ def check_full(options, file, at_once):
     compare_lines(what, server, since, [*failed, END])
 
 
-def check_memory(options, file, at_once):
-    """A reply of 503 has no line: memory ran out, and nothing failed."""
+def check_memory(options: argparse.Namespace, file: str, at_once: int | None) -> None:
+    """Asks for too much memory: a reply of 503 has no line, since nothing failed."""
     what, since = f"no memory, {at_once or 1} at once", time.time()
     server = Server(options, file, 1, memory=40 << 20, at_once=at_once, more=["--log"])
     with connected(server.port) as made:
@@ -115,8 +117,8 @@ def check_memory(options, file, at_once):
     compare_lines(what, server, since, [END])
 
 
-def check_silent(options, file):
-    """Without --log nothing is said of a 500, nor of the end."""
+def check_silent(options: argparse.Namespace, file: str) -> None:
+    """Asks without --log: nothing is said of a 500, nor of the end."""
     for at_once in (None, 9):
         server = Server(options, file, 1, at_once=at_once)
         with connected(server.port) as made:
@@ -124,10 +126,11 @@ def check_silent(options, file):
         server.ended("a damaged row without --log", is_checked=False)
 
 
-def check_ends(options, folder):
-    """The end is told where the port is in use too; a file that isn't opened has no server that could end."""
+def check_ends(options: argparse.Namespace, folder: str) -> None:
+    """Starts where the port is in use, whose end is told; a file that isn't opened has no server that could end."""
     with socket.create_server(("127.0.0.1", 0)) as taken:
-        for more in ([], ["--at-once", "9"]):
+        choices: list[list[str]] = [[], ["--at-once", "9"]]
+        for more in choices:
             words = [*words_of(file=f"{folder}/end.db", port=str(taken.getsockname()[1])), *more, "--log"]
             ran = subprocess.run(shlex.split(options.program) + words, stdin=subprocess.DEVNULL, capture_output=True, timeout=options.wait + 60)
             said = [line for line in ran.stderr.decode().splitlines() if "unproved" not in line]
@@ -135,31 +138,29 @@ def check_ends(options, folder):
             compare("a port in use, with --log", (1, b"", ["ended: socket", "couchd: socket"]), (ran.returncode, ran.stdout, ends))
 
 
-def check_unread(options, file):
-    """Where nobody reads the lines, or standard error is closed, the server goes on: a line that can't be printed is lost."""
-    words = [*shlex.split(options.program), *words_of(file=file, conns="2"), "--log"]
+def check_unread(options: argparse.Namespace, file: str) -> None:
+    """Serves where nobody reads the lines, or standard error is closed: a line that can't be printed is lost."""
     for what, behind in (("closed", "exec 2>&-; "), ("a full device", "exec 2>/dev/full; ")):
-        ran = subprocess.Popen(["sh", "-c", f'{behind}exec "$@"', "sh", *words], stdout=subprocess.PIPE, text=True)
-        port = int(ran.stdout.readline().rsplit(":", 1)[1])
+        program = shlex.join(["sh", "-c", f'{behind}exec "$@"', "sh", *shlex.split(options.program)])
+        server = Server(argparse.Namespace(**{**vars(options), "program": program}), file, 2, more=["--log"])
         for _ in range(2):
-            with connected(port) as made:
+            with connected(server.port) as made:
                 asks(f"standard error is {what}", made, request("GET", "/db/a"), FAULT)
-        compare(f"standard error is {what}: the end", 0, ran.wait(60))
+        compare(f"standard error is {what}: the end", 0, server.process.wait(60))
 
 
-def check_killed(options, file):
-    """A line is there once its reply is, so a server that is killed has told of all that it answered."""
+def check_killed(options: argparse.Namespace, file: str) -> None:
+    """Kills a server: a line is there once its reply is, so it has told of all that it answered."""
     since = time.time()
     server = Server(options, file, 9, at_once=9, more=["--log"])
     with connected(server.port) as made:
         for _ in range(20):
             asks("before a kill", made, request("GET", "/db/a"), FAULT)
-        server.process.send_signal(signal.SIGKILL)
-    server.process.wait(60)
+        server.kill()
     compare("lines before a kill", ["500 GET /db/a: a damaged store"] * 20, lines_of("before a kill", server, since))
 
 
-def check(options, folder):
+def check(options: argparse.Namespace, folder: str) -> None:
     """Damages a file, fills a disk, and compares the lines."""
     file = f"{folder}/failing.db"
     fill(options, file)

@@ -1,4 +1,7 @@
 """Files that the program refuses, and the modes of those that it makes."""
+from __future__ import annotations
+
+import argparse
 import os
 import socket
 
@@ -7,7 +10,7 @@ from lib.serve.command_lines import compare_refusal, words_of
 from lib.server import Server, all_of, asks, connected, modes_of, reply, request
 
 
-def check_files(options, folder):
+def check_files(options: argparse.Namespace, folder: str) -> None:
     """Files that are no store, or can't be opened; they are looked at before the port."""
     with socket.create_server(("127.0.0.1", 0)) as taken:
         port = str(taken.getsockname()[1])
@@ -27,8 +30,8 @@ def check_files(options, folder):
             compare_refusal("a file that is read alone", options, words_of(file=sealed, port=port), 1, "file")
 
 
-def check_modes(options, folder):
-    """Under umask 022 a file that the server makes is its owner's alone, and so is its log; one that is there keeps its mode, which its log has too."""
+def check_modes(options: argparse.Namespace, folder: str) -> None:
+    """Makes files under umask 022, which are their owner's alone, with their logs; one that is there keeps its mode."""
     before = os.umask(0o022)
     for what, file, mode in (("a new file", f"{folder}/new.db", None), ("a file that is there", f"{folder}/there.db", 0o640)):
         if mode:
@@ -45,7 +48,7 @@ def check_modes(options, folder):
     os.umask(before)
 
 
-def check(options, folder):
+def check(options: argparse.Namespace, folder: str) -> None:
     """Starts servers on files that are no store, and on new ones."""
     check_files(options, folder)
     check_modes(options, folder)

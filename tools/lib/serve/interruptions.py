@@ -1,4 +1,7 @@
 """Reads and writes of the server that are interrupted from outside."""
+from __future__ import annotations
+
+import argparse
 import signal
 import subprocess
 import time
@@ -7,15 +10,15 @@ from lib.checks import compare, find
 from lib.server import WELCOME, Server, asks, connected, first_revision, received, reply, request
 
 
-def pause(server):
+def pause(server: Server) -> None:
     """Stops the server's process, and lets it go on."""
-    server.process.send_signal(signal.SIGSTOP)
+    server.pause()
     time.sleep(0.2)
-    server.process.send_signal(signal.SIGCONT)
+    server.go_on()
     time.sleep(0.2)
 
 
-def trace(server):
+def trace(server: Server) -> None:
     """Attaches strace to the server's process, and detaches it."""
     tracer = subprocess.Popen(["strace", "-f", "-o", "/dev/null", "-p", str(server.process.pid)], stderr=subprocess.DEVNULL)
     time.sleep(0.5)
@@ -24,7 +27,7 @@ def trace(server):
     time.sleep(0.2)
 
 
-def check_interrupted(options, file, at_once):
+def check_interrupted(options: argparse.Namespace, file: str, at_once: int | None) -> None:
     """Reads and writes that wait go on where the server's process is stopped and goes on, or strace is attached and detached."""
     server = Server(options, file, 1, at_once=at_once)
     body = {"v": "x" * 3_000_000}
@@ -52,7 +55,7 @@ def check_interrupted(options, file, at_once):
     server.ended(f"interrupted, at once {at_once}")
 
 
-def check(options, folder):
+def check(options: argparse.Namespace, folder: str) -> None:
     """Interrupts a server with one connection at once, and one with two."""
     check_interrupted(options, f"{folder}/interrupted.db", None)
     check_interrupted(options, f"{folder}/interrupted_at_once.db", 2)

@@ -1,5 +1,9 @@
 """A server that is killed while it writes."""
+from __future__ import annotations
+
+import argparse
 import contextlib
+import functools
 import json
 import threading
 import time
@@ -9,8 +13,8 @@ from lib.serve.connections import AT_ONCE, start_all
 from lib.server import Server, asks, connected, finds_sound, reply, request, rest_of, status_of
 
 
-def check_killed(options, folder):
-    """A server that is killed while it writes: each write that was answered is there, and none in part."""
+def check_killed(options: argparse.Namespace, folder: str) -> None:
+    """Kills a server while it writes: each write that was answered is there, and none in part."""
     for moment in range(20):
         file = f"{folder}/killed{moment}.db"
         server = Server(options, file, 10)
@@ -40,7 +44,7 @@ def check_killed(options, folder):
         compare(f"killed at moment {moment}: all that was answered, and no bulk in part", True, there in (wanted, wanted | more))
 
 
-def write_on(port, client, answered):
+def write_on(port: int, client: int, answered: list[str]) -> None:
     """Writes new documents on a connection of its own, until the server is gone; each that was answered goes into the list."""
     with contextlib.suppress(OSError), connected(port) as made:
         number = 0
@@ -53,18 +57,17 @@ def write_on(port, client, answered):
             number += 1
 
 
-def check_killed_among_writers(options, folder):
-    """A server that is killed while fifty clients write: each write that was answered is there, and at most one more of each."""
+def check_killed_among_writers(options: argparse.Namespace, folder: str) -> None:
+    """Kills a server while fifty clients write: each answered write is there, and at most one more of each."""
     for moment in range(3):
         file = f"{folder}/writers{moment}.db"
         server = Server(options, file, 100, at_once=AT_ONCE)
         with connected(server.port) as made:
             asks("a database", made, request("PUT", "/db"), reply(201, {"ok": True}))
-        answered = []
-        threads = start_all([lambda client=client: write_on(server.port, client, answered) for client in range(50)])
+        answered: list[str] = []
+        threads = start_all([functools.partial(write_on, server.port, client, answered) for client in range(50)])
         time.sleep(0.5 + moment * 0.3)
-        server.process.kill()
-        server.process.wait(60)
+        server.kill()
         for thread in threads:
             thread.join(60)
         finds_sound(options, f"killed among writers, {moment}", file)
@@ -79,7 +82,7 @@ def check_killed_among_writers(options, folder):
         compare(f"killed among writers, {moment}: at most one more of each", True, len(there) - len(answered) <= 50)
 
 
-def check(options, folder):
+def check(options: argparse.Namespace, folder: str) -> None:
     """Kills servers of one client, and of fifty."""
     check_killed(options, folder)
     check_killed_among_writers(options, folder)

@@ -1,4 +1,7 @@
 """Limits of a file's size and of the program's memory, and of how much of a file is kept."""
+from __future__ import annotations
+
+import argparse
 import json
 
 from lib.checks import compare
@@ -8,8 +11,8 @@ NO_ROOM = 503, text_of({"error": "service_unavailable", "reason": "memory"})
 LIMITS = [16, 18, 20, 24, 28, 32, 40, 48, 64, 80, 96, 128, 160, 192, 256, 320]
 
 
-def check_full(options, file):
-    """A disk that is full, as by a limit of the file's size: a write is answered by 500, and what was written stays."""
+def check_full(options: argparse.Namespace, file: str) -> None:
+    """Fills a disk, by a limit of the file's size: a write is answered by 500, and what was written stays."""
     server = Server(options, file, 1, limit=300_000)
     written, told = [], None
     with connected(server.port) as made:
@@ -31,7 +34,7 @@ def check_full(options, file):
     server.ended("after a full disk")
 
 
-def large_requests():
+def large_requests() -> list[tuple[int, bytes]]:
     """Returns requests that take much memory: how many documents each adds, and its bytes."""
     documents = [{"_id": f"m{number:06}"} for number in range(60_000)]
     revisions = [{"_id": "r", "_rev": f"1-{number:05x}"} for number in range(40_000)]
@@ -47,8 +50,8 @@ def large_requests():
     ]
 
 
-def check_memory(options, folder):
-    """A limit on the program's memory: each reply is the wanted one or 503, what was answered is there, and the server goes on."""
+def check_memory(options: argparse.Namespace, folder: str) -> None:
+    """Limits the memory: each reply is the wanted one or 503, what was answered is there, and the server goes on."""
     requests = large_requests()
     for limit in LIMITS:
         file, what = f"{folder}/memory{limit}.db", f"with {limit} MB"
@@ -71,8 +74,8 @@ def check_memory(options, folder):
         print(f"serve_check: {what}: {refusals} of {len(requests)} refused")
 
 
-def check_cache(options, file):
-    """A file that is longer than 8 MB holds the same, however much of it is kept in memory."""
+def check_cache(options: argparse.Namespace, file: str) -> None:
+    """Reads a file that is longer than 8 MB: it holds the same, however much of it is kept in memory."""
     server = Server(options, file, 5)
     compare("a database", 201, answer_of(server.port, request("PUT", "/db"))[0])
     for part in range(4):
@@ -88,7 +91,7 @@ def check_cache(options, file):
         server.ended(what, is_checked=False)
 
 
-def check(options, folder):
+def check(options: argparse.Namespace, folder: str) -> None:
     """Plays requests under limits."""
     check_full(options, f"{folder}/full.db")
     check_memory(options, folder)

@@ -1,4 +1,7 @@
 """Pages by id of a database of some thousand documents, between random writes."""
+from __future__ import annotations
+
+import argparse
 import json
 import random
 from urllib.parse import quote
@@ -10,7 +13,7 @@ from model import Node
 DOCUMENTS, STEPS = 2_000, 400
 
 
-def random_page(chance, names):
+def random_page(chance: random.Random, names: list[str]) -> str:
     """Returns the target of a page of few rows, from a random place, behind a random number, in a random direction."""
     asked = [f"limit={chance.randrange(4)}"]
     for word in ("startkey", "endkey"):
@@ -23,7 +26,7 @@ def random_page(chance, names):
     return f"/{chance.choice(['db', 'other'])}/_all_docs?{'&'.join(asked)}"
 
 
-def random_write(chance, names):
+def random_write(chance: random.Random, names: list[str]) -> tuple[str, bytes]:
     """Returns a random bulk of replicated revisions: new documents, others' leaves and deletions among them."""
     documents = []
     for _ in range(chance.choice([1, 1, 3, 40])):
@@ -32,11 +35,11 @@ def random_write(chance, names):
     return f"/{chance.choice(['db', 'other'])}/_bulk_docs", text_of({"docs": documents, "new_edits": False})
 
 
-def check_pages(options, file, seed):
-    """Each page is the model's, beside writes, deletions, conflicts, and a database that is removed and made again."""
+def check_pages(options: argparse.Namespace, file: str, seed: int) -> None:
+    """Compares each page with the model's, beside writes, conflicts, and a database that is removed and made again."""
     chance, node = random.Random(seed), Node()
     names = [f"k{number:05}{'x' * chance.randrange(3)}" for number in range(DOCUMENTS)]
-    steps = [("PUT", "/db", None), ("PUT", "/other", None)]
+    steps: list[tuple[str, str, bytes | None]] = [("PUT", "/db", None), ("PUT", "/other", None)]
     steps += [("POST", f"/{name}/_bulk_docs", text_of({"docs": [{"_id": one, "_rev": "1-b"} for one in names[part::3]], "new_edits": False})) for name, part in [("db", 0), ("db", 1), ("other", 2)]]
     for number in range(STEPS):
         steps.append(("POST", *random_write(chance, names)) if chance.random() < 0.3 else ("GET", random_page(chance, names), None))
@@ -51,7 +54,7 @@ def check_pages(options, file, seed):
     server.ended("pages")
 
 
-def check(options, folder):
+def check(options: argparse.Namespace, folder: str) -> None:
     """Plays random pages and writes, of two seeds."""
     for seed in (1, 2):
         check_pages(options, f"{folder}/pages{seed}.db", seed)

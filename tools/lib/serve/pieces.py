@@ -1,14 +1,18 @@
 """Many requests in one piece, and the memory that their replies take."""
+from __future__ import annotations
+
+import argparse
 import re
 import shlex
 
 from lib.checks import compare
 from lib.server import ADMIN, WELCOME, Server, asks, connected, first_revision, message, proxy_lines, received, reply, request, status_of
+from lib.values import present
 
 MOST_ABOVE_IDLE = 30
 
 
-def program_of(server):
+def program_of(server: Server) -> int:
     """Returns the number of the program's process, which may be the child of a script."""
     number = server.process.pid
     while True:
@@ -19,14 +23,14 @@ def program_of(server):
         number = int(first[0])
 
 
-def memory_of(number, name):
+def memory_of(number: int, name: str) -> float:
     """Returns a size of a process's memory, in MB."""
     with open(f"/proc/{number}/status", encoding="ascii") as status:
-        return int(re.search(name + r":\s*(\d+) kB", status.read()).group(1)) / 1000
+        return int(present(re.search(name + r":\s*(\d+) kB", status.read()))[1]) / 1000
 
 
-def check_many_requests_in_one_piece(options, file, at_once):
-    """290 lists of a large database, asked for in one piece: all replies are right, and no more than a few of them are held at a time."""
+def check_many_requests_in_one_piece(options: argparse.Namespace, file: str, at_once: int | None) -> None:
+    """Asks for 290 lists in one piece: all replies are right, and no more than a few are held at a time."""
     # A program that wasn't proved takes other memory, and more time.
     is_proved = "try" not in shlex.split(options.program)
     count = 20_000 if is_proved else 200
@@ -66,7 +70,7 @@ def check_many_requests_in_one_piece(options, file, at_once):
     server.ended(what)
 
 
-def check(options, folder):
+def check(options: argparse.Namespace, folder: str) -> None:
     """Sends many requests in one piece, to a server with one connection at once and to one with two."""
     check_many_requests_in_one_piece(options, f"{folder}/piece.db", None)
     check_many_requests_in_one_piece(options, f"{folder}/piece_at_once.db", 2)

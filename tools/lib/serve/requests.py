@@ -10,7 +10,7 @@ from lib.checks import compare
 from lib.server import WELCOME, Server, asks, connected, first_revision, reply, request, resets, rest_of, text_of
 
 
-def check_requests(options, file):
+def check_requests(options: argparse.Namespace, file: str) -> None:
     """Requests on four connections of one server, one behind another, and the end."""
     server = Server(options, file, 4)
     body = {"v": 1}
@@ -45,7 +45,7 @@ def check_requests(options, file):
 
 
 def check_shut(options: argparse.Namespace, file: str) -> None:
-    """A client that has sent all and shut its side before its connection is accepted has every reply."""
+    """Shuts a client's side, which has sent all, before its connection is accepted: it has every reply."""
     server = Server(options, file, 2)
     body = {"v": 1}
     revision = first_revision(body)
@@ -60,7 +60,7 @@ def check_shut(options: argparse.Namespace, file: str) -> None:
     server.ended("a client that shut its side")
 
 
-def check_broken(options, file):
+def check_broken(options: argparse.Namespace, file: str) -> None:
     """Connections that break off don't end the server; each counts."""
     server = Server(options, file, 5)
     connected(server.port).close()
@@ -78,16 +78,16 @@ def check_broken(options, file):
     server.ended("connections that break off")
 
 
-def check_kept(options, file):
-    """What was written stands in the file, for the next server."""
+def check_kept(options: argparse.Namespace, file: str) -> None:
+    """Reads in the file what the server before has written."""
     server = Server(options, file, 1)
     with connected(server.port) as made:
         asks("a document of before", made, request("GET", "/db/a"), reply(200, {"_id": "a", "_rev": first_revision({"v": 1}), "v": 1}))
     server.ended("a second start")
 
 
-def check_many(options, file):
-    """New documents are written, read back and deleted, two hundred of them."""
+def check_many(options: argparse.Namespace, file: str) -> None:
+    """Writes two hundred new documents, reads them back and deletes them."""
     server = Server(options, file, 1)
     with connected(server.port) as made:
         for number in range(200):
@@ -100,7 +100,7 @@ def check_many(options, file):
     server.ended("two hundred documents")
 
 
-def check(options, folder):
+def check(options: argparse.Namespace, folder: str) -> None:
     """Plays requests on one file, and with a store over it reads there what the server before has written."""
     file = f"{folder}/a.db"
     check_requests(options, file)

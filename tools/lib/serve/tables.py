@@ -1,6 +1,10 @@
 """What SQLite's own library makes of the file."""
+from __future__ import annotations
+
+import argparse
 import contextlib
 import sqlite3
+from typing import Any
 
 from lib.checks import compare
 from lib.serve.command_lines import compare_refusal, words_of
@@ -9,21 +13,21 @@ from lib.server import Server, asks, connected, first_revision, reply, request, 
 CLOSED = text_of({"admins": {"roles": ["_admin"]}, "members": {"roles": ["_admin"]}}).decode()
 
 
-def rows_in(file, sql):
+def rows_in(file: str, sql: str) -> list[tuple[Any, ...]]:
     """Returns rows of the file."""
     with contextlib.closing(sqlite3.connect(file)) as conn:
         return conn.execute(sql).fetchall()
 
 
-def change(file, sql):
+def change(file: str, sql: str) -> None:
     """Changes the file behind the server's back."""
     with contextlib.closing(sqlite3.connect(file)) as conn:
         conn.execute(sql)
         conn.commit()
 
 
-def check_tables(options, file):
-    """SQLite's library reads the file, and its rows are those that docs/OPERATE.md tells."""
+def check_tables(options: argparse.Namespace, file: str) -> None:
+    """SQLite's library reads the file, and its rows are those that crates/tables/README.md tells."""
     server = Server(options, file, 1)
     with connected(server.port) as made:
         made.sendall(request("PUT", "/db") + request("PUT", "/db/a", {"v": 1}) + request("PUT", "/db/_local/l", {"w": 2}, more=["Connection: close"]))
@@ -48,6 +52,6 @@ def check_tables(options, file):
     compare_refusal("another version", options, words_of(file=file), 1, "file")
 
 
-def check(options, folder):
+def check(options: argparse.Namespace, folder: str) -> None:
     """Reads a file of the server by SQLite's library."""
     check_tables(options, f"{folder}/tables.db")

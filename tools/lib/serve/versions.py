@@ -1,4 +1,7 @@
 """Files of version 1, and of versions that don't exist."""
+from __future__ import annotations
+
+import argparse
 import os
 
 from lib.checks import compare
@@ -8,7 +11,7 @@ from lib.serve.tables import change, rows_in
 from lib.server import Server, asks, connected, reply, request
 
 
-def bytes_of(file):
+def bytes_of(file: str) -> list[bytes]:
     """Returns the bytes of a file and of its log."""
     found = []
     for name in [file, f"{file}-wal"]:
@@ -18,7 +21,7 @@ def bytes_of(file):
     return found
 
 
-def view_of(options, file, what):
+def view_of(options: argparse.Namespace, file: str, what: str) -> None:
     """Starts a server on a file, and compares the view of its index."""
     server = Server(options, file, 1)
     with connected(server.port) as made:
@@ -26,8 +29,8 @@ def view_of(options, file, what):
     server.ended(what)
 
 
-def check_first_version(options, folder):
-    """A file of version 1 is carried over once; one that isn't laid out is refused, and stays as it was."""
+def check_first_version(options: argparse.Namespace, folder: str) -> None:
+    """Opens a file of version 1: it is carried over once; one that isn't laid out is refused, and stays as it was."""
     file = f"{folder}/first.db"
     write_first(file)
     compare("a file of version 1", FIRST_SHAPE, shape_of(file))
@@ -50,6 +53,6 @@ def check_first_version(options, folder):
         compare_refusal(f"version {version}", options, words_of(file=file), 1, "file")
 
 
-def check(options, folder):
+def check(options: argparse.Namespace, folder: str) -> None:
     """Opens files of other versions."""
     check_first_version(options, folder)

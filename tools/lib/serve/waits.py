@@ -5,14 +5,15 @@ import argparse
 import concurrent.futures
 import contextlib
 import time
+from collections.abc import Iterator
 
 from lib.checks import compare
 from lib.serve.connections import drip, start_all
 from lib.server import WELCOME, Server, asks, connected, first_revision, reply, request, rest_of
 
 
-def check_silent(options, file):
-    """A client that sends nothing is left after 30 seconds, without a reply, and the next one is served."""
+def check_silent(options: argparse.Namespace, file: str) -> None:
+    """Sends nothing: the client is left after 30 seconds, without a reply, and the next one is served."""
     server = Server(options, file, 2)
     with connected(server.port) as silent, connected(server.port) as waiting:
         begun = time.monotonic()
@@ -22,8 +23,8 @@ def check_silent(options, file):
     server.ended("a silent client")
 
 
-def check_idle(options, file):
-    """A silent connection is closed after 60 seconds, and one whose request isn't whole after 30, each without a reply."""
+def check_idle(options: argparse.Namespace, file: str) -> None:
+    """Leaves a connection silent, which is closed after 60 seconds; one whose request isn't whole is after 30."""
     server = Server(options, file, 2, at_once=2)
     with connected(server.port) as silent, connected(server.port) as slow:
         silent.settimeout(90)
@@ -41,7 +42,7 @@ def check_idle(options, file):
 
 
 def check_takes_nothing(options: argparse.Namespace, file: str) -> None:
-    """A client that takes no replies is left, and the next one is served: forty replies of a million bytes are more than sockets keep.
+    """Takes no replies: the client is left, and the next one is served; forty replies of 1 MB are more than sockets keep.
 
     Each write waits for 30 seconds. The system's buffers grow while they fill, so the first two may end by taking some bytes.
     """
@@ -63,14 +64,14 @@ def check_takes_nothing(options: argparse.Namespace, file: str) -> None:
 CHECKS = [(check_silent, "silent.db"), (check_idle, "idle.db"), (check_takes_nothing, "nothing.db")]
 
 
-def check(options, folder):
+def check(options: argparse.Namespace, folder: str) -> None:
     """Waits as the server does."""
     for one, name in CHECKS:
         one(options, f"{folder}/{name}")
 
 
 @contextlib.contextmanager
-def run_aside(options, folder):
+def run_aside(options: argparse.Namespace, folder: str) -> Iterator[None]:
     """Runs the checks beside others; behind them, where all use one port."""
     if options.port:
         yield

@@ -1,7 +1,6 @@
-"""Requests that a pass sends ahead of their turn, for tools/sync_check."""
+"""Requests that a pass sends ahead of their turn."""
 from __future__ import annotations
 
-import argparse
 import contextlib
 import queue
 import socket
@@ -10,7 +9,8 @@ import time
 
 from lib.checks import compare
 from lib.server import connected, reply_of
-from lib.syncing import DONE, fill, held, outcome, request_of, serving, stopped, synced
+from lib.sync.place import Check, Place
+from lib.syncing import DONE, fill, held, outcome, request_of, serving, synced
 
 # How many requests are under way at most: the one that is asked, and fifteen ahead.
 MOST = 16
@@ -60,9 +60,10 @@ class Far:
                 self.under_way -= 1
 
 
-def check_ahead(options: argparse.Namespace, room: str) -> None:
+def check_ahead(place: Place) -> None:
     """A pull from far away: requests are sent ahead, in less time than one by one, and where a connection ends with
     some of them, or bytes come that nobody asked for, all documents come over still."""
+    options, room = place.options, place.room
     source = f"{room}/far.db"
     fill(options, source, 60)
     wanted = held(options, source)
@@ -85,4 +86,7 @@ def check_ahead(options: argparse.Namespace, room: str) -> None:
         else:
             compare(f"{what}: {took:.1f} s for {far.replies} replies", True, took < far.replies * DELAY / 2)
             compare(f"{what}: connections", 1, far.connections)
-    stopped(server)
+    server.stop()
+
+
+CHECKS: dict[str, Check] = {"ahead": check_ahead}
