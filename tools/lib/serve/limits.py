@@ -2,7 +2,6 @@
 from __future__ import annotations
 
 import argparse
-import json
 
 from lib.checks import compare
 from lib.server import Server, answer_of, asks, connected, first_revision, reply, request, status_of, text_of
@@ -56,7 +55,7 @@ def check_memory(options: argparse.Namespace, folder: str) -> None:
     for limit in LIMITS:
         file, what = f"{folder}/memory{limit}.db", f"with {limit} MB"
         server = Server(options, file, len(requests) + 2, memory=limit << 20)
-        compare(f"{what}: a database", 201, answer_of(server.port, request("PUT", "/db"))[0])
+        compare(f"{what}: a database", 201, server.answer("PUT", "/db")[0])
         count, refusals = 0, 0
         for number, (documents, sent) in enumerate(requests):
             status, body = answer_of(server.port, sent)
@@ -66,10 +65,10 @@ def check_memory(options: argparse.Namespace, folder: str) -> None:
             else:
                 compare(f"{what}: status of request {number}", 201 if documents else 200, status)
                 count += documents
-        compare(f"{what}: how many there are", count, json.loads(answer_of(server.port, request("GET", "/db"))[1])["doc_count"])
+        compare(f"{what}: how many there are", count, server.answer("GET", "/db")[1]["doc_count"])
         server.ended(what, is_checked=False)
         server = Server(options, file, 1)
-        compare(f"{what}: what the file holds", count, json.loads(answer_of(server.port, request("GET", "/db"))[1])["doc_count"])
+        compare(f"{what}: what the file holds", count, server.answer("GET", "/db")[1]["doc_count"])
         server.ended(f"{what}, opened again")
         print(f"serve_check: {what}: {refusals} of {len(requests)} refused")
 
@@ -77,17 +76,17 @@ def check_memory(options: argparse.Namespace, folder: str) -> None:
 def check_cache(options: argparse.Namespace, file: str) -> None:
     """Reads a file that is longer than 8 MB: it holds the same, however much of it is kept in memory."""
     server = Server(options, file, 5)
-    compare("a database", 201, answer_of(server.port, request("PUT", "/db"))[0])
+    compare("a database", 201, server.answer("PUT", "/db")[0])
     for part in range(4):
         documents = [{"_id": f"c{number:05}", "x": "x" * 200} for number in range(part * 10_000, (part + 1) * 10_000)]
-        compare("documents of a long file", 201, answer_of(server.port, request("POST", "/db/_bulk_docs", {"docs": documents}))[0])
+        compare("documents of a long file", 201, server.answer("POST", "/db/_bulk_docs", {"docs": documents})[0])
     server.ended("a long file")
     for cache, memory in ((None, None), (1, None), (4096, None), (64, 48)):
         what = f"with a cache of {cache} MB, {memory} MB in all"
         server = Server(options, file, 2, cache=cache, memory=memory and memory << 20)
-        status, body = answer_of(server.port, request("GET", "/db/_all_docs?limit=2&skip=39999"))
-        compare(f"{what}: the last row", (200, ["c39999"]), (status, [row["id"] for row in json.loads(body)["rows"]]))
-        compare(f"{what}: a document", 200, answer_of(server.port, request("GET", "/db/c20000"))[0])
+        status, listed = server.answer("GET", "/db/_all_docs?limit=2&skip=39999")
+        compare(f"{what}: the last row", (200, ["c39999"]), (status, [row["id"] for row in listed["rows"]]))
+        compare(f"{what}: a document", 200, server.answer("GET", "/db/c20000")[0])
         server.ended(what, is_checked=False)
 
 
