@@ -16,7 +16,7 @@ const LAST_SILENCE: u64 = 2;
 /// How many pieces of one request are read in a turn at most.
 const PIECES: usize = 64;
 
-/// Where more bytes than these become owed by a piece, the next one is read behind the turns of others.
+/// Where more bytes than these become owed by a piece, the next one is read behind those of others.
 const MUCH: usize = 1_048_576;
 
 /// How far a conversation is.
@@ -100,8 +100,9 @@ impl Conversation {
         }
     }
 
-    /// Tells whether nothing has gone through for too long, or a request is not whole for too long. Such a
-    /// connection is ended once it has a turn by which nothing goes through.
+    /// Tells whether nothing has gone through for too long, or a request is not whole for too long.
+    ///
+    /// Such a connection is ended once it has a turn by which nothing goes through.
     pub fn is_late(&self, now: u64, limits: &Limits) -> bool {
         let silence = match self.stage {
             ConversationStage::Open | ConversationStage::Last => limits.idle,
@@ -123,8 +124,9 @@ impl Conversation {
         self.stage == ConversationStage::Ending && self.is_slow(now, limits)
     }
 
-    /// Joins those that have a turn to come, if it isn't among them. One to which much became owed by its
-    /// last piece is to read the next one behind the others. Where memory runs out it doesn't join.
+    /// Joins those that have a turn to come, if it isn't among them. Where memory runs out it doesn't.
+    ///
+    /// One to which much became owed by its last piece is to read the next one behind the others.
     pub(crate) fn join(&mut self, queues: &mut Queues, conn: u64, place: Place)
         ensures owed { self.new.owed ≡ self.old.owed }
         ensures stage { self.new.stage ≡ self.old.stage }
@@ -139,8 +141,8 @@ impl Conversation {
         };
     }
 
-    /// Takes a turn: writes what is owed; where nothing is, reads a piece, feeds it, and writes the replies.
-    /// The other pieces of the same request may follow.
+    /// Takes a turn: writes what is owed; where nothing is, reads a piece, feeds it, and writes the
+    /// replies. The other pieces of the same request may follow.
     pub fn take_turn<S: Store + Drop, L: FailureLog + Drop, W: Sockets>(
         &mut self,
         hub: &mut Hub<S, L>,
@@ -152,7 +154,7 @@ impl Conversation {
         ensures converses { Converses S.Store conn (record { hub = hub.old; standing = standing_of self.old; log = W.log sockets.old })
             (record { hub = hub.new; standing = standing_of self.new; log = W.log sockets.new }) }
 
-        // It is silent only where nothing was read and nothing written. One that is late is closed behind such a turn.
+        // Only where nothing was read and nothing written; one that is late is closed behind it.
         ensures silent { result ≡ Turn.Silent → IsSilent (record { hub = hub.old; standing = standing_of self.old; log = W.log sockets.old })
             (record { hub = hub.new; standing = standing_of self.new; log = W.log sockets.new }) }
     {
@@ -186,8 +188,8 @@ impl Conversation {
         self.take_pieces(hub, sockets, conn, room, now)
     }
 
-    /// Writes what is owed. The answer is `Again` where it was taken, all or a part, and where nothing is
-    /// owed.
+    /// Writes what is owed. The answer is `Again` where it was taken, all or a part, and where nothing
+    /// is owed.
     fn send<W: Sockets>(&mut self, sockets: &mut W, conn: u64, now: u64) -> Turn
         ensures sent { Sends conn (W.log sockets.old) (W.log sockets.new) self.old.owed self.new.owed }
         ensures stage { self.new.stage ≡ self.old.stage }

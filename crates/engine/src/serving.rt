@@ -39,7 +39,7 @@ struct Conversations {
     accepted: u64,
     // what the last wait told
     second: u64,
-    // the seconds that count: a round is one at most, so that nobody is charged for another's long request
+    // the seconds that count: a round is one at most, so that nobody is charged for a stall
     now: u64,
 }
 
@@ -47,9 +47,10 @@ struct Conversations {
 /// any more. One that was reset before it was accepted counts.
 ///
 /// Each whole request is handled one after the other, in the order in which their last bytes come. A
-/// connection is read only where nothing is owed to it. It is closed where it is silent for too long, or
-/// a request of it is not whole for too long, once it has a turn by which nothing goes through. Where
-/// memory runs out, its connection has the fixed reply with status 503, and ends; the others go on.
+/// connection is read only where nothing is owed to it. It is closed where it is silent for too long,
+/// or a request of it is not whole for too long, once it has a turn by which nothing goes through.
+/// Where memory runs out, its connection has the fixed reply with status 503, and ends; the others go
+/// on.
 ///
 /// `Socket`: nothing can be waited for, or a connection not be accepted. `Waits`: it waited 2^64 - 1
 /// times.
@@ -111,8 +112,10 @@ impl Conversations {
         Err(EngineFault::Waits)
     }
 
-    /// Waits once, accepts what waits, and gives each connection that may be ready a turn. Of those to which
-    /// much became owed by their last piece only the first one has a turn, behind the others.
+    /// Waits once, accepts what waits, and gives each connection that may be ready a turn.
+    ///
+    /// Of those to which much became owed by their last piece only the first one has a turn, behind the
+    /// others.
     fn take_round<S: Store + Drop, L: FailureLog + Drop, W: Sockets>(
         &mut self,
         hub: &mut Hub<S, L>,
@@ -138,8 +141,8 @@ impl Conversations {
         Ok(())
     }
 
-    /// Notes the second that it is. Where it is another one, each connection that is late has a turn, behind
-    /// which it may be closed.
+    /// Notes the second that it is. Where it is another one, each connection that is late has a turn,
+    /// behind which it may be closed.
     fn note_second(&mut self, second: u64, limits: &Limits)
         ensures alike { standings_of self.new.conversations.entries ≡ standings_of self.old.conversations.entries }
         ensures accepted { self.new.accepted ≡ self.old.accepted }
@@ -355,7 +358,7 @@ impl Conversations {
         conversation.take_turn(hub, sockets, conn, room, self.now)
     }
 
-    /// Does what follows a turn: ends the connection, or gives it another turn where it is to have one.
+    /// Does what follows a turn: ends the connection, or gives it another one where it is to have it.
     fn follow<S: Store + Drop, L: FailureLog + Drop, W: Sockets>(
         &mut self,
         hub: &mut Hub<S, L>,
@@ -379,8 +382,8 @@ impl Conversations {
         }
     }
 
-    /// Tells whether a connection ends behind a turn: where it is over, or where it is late and nothing went
-    /// through.
+    /// Tells whether a connection ends behind a turn: where it is over, or where it is late and nothing
+    /// went through.
     fn is_ended(&self, conn: u64, turn: Turn, limits: &Limits) -> bool
         ensures again { turn ≡ Turn.Again → result ≡ false }
         ensures later { turn ≡ Turn.Later → result ≡ false }
@@ -393,8 +396,8 @@ impl Conversations {
         }
     }
 
-    /// Gives a connection another turn where its last one may go on, or where bytes went through and it is
-    /// late.
+    /// Gives a connection another turn where its last one may go on, or where bytes went through and it
+    /// is late.
     fn note_next(&mut self, conn: u64, turn: Turn, limits: &Limits)
         ensures alike { standings_of self.new.conversations.entries ≡ standings_of self.old.conversations.entries }
         ensures accepted { self.new.accepted ≡ self.old.accepted }
