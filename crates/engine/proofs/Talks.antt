@@ -5,12 +5,12 @@ use Rattle.std.specs.Ordering.{nat_cmp}
 use Rattle.store.specs.declared.store.Store.{Ghosts}
 use Rattle.hub.specs.Feeding.{HubState}
 use Rattle.engine.specs.Acts.{Act, Logs, brought, took}
-use Rattle.engine.specs.Conversing.{Converses, Talk, standing_at}
+use Rattle.engine.specs.Conversing.{Converses, IsSilent, Talk, standing_at}
 use Rattle.engine.specs.Standing.{Standing, TakesPiece, ending, given_up, owed_by, serving, with_owed}
 use Rattle.engine.specs.inner.Sending.{Sends, stage_after_finish}
 use Rattle.engine.specs.declared.conversation.ConversationStage.{ConversationStage}
 use Rattle.engine.specs.declared.conversation.ConversationStage.TheVariants.{Open, Last, Ending, Lost}
-use Rattle.engine.proofs.Deeds.{goes_more, goes_none, leads_one, logs_none}
+use Rattle.engine.proofs.Deeds.{goes_more, goes_none, leads_one, logs_more, logs_none}
 use Rattle.engine.proofs.Standings.{insert_again, insert_here, len_either}
 
 owed_again : (s : Standing) → with_owed s (owed_by s) ≡ s
@@ -33,6 +33,24 @@ finish_there Lost next is there e = there refl
 -- a connection is served where its conversation is open, and nothing is owed
 pub open_free : (stage : ConversationStage) (owed : List ℕ) → stage ≡ Open → owed ≡ [] → standing_at stage owed ≡ serving []
 open_free stage owed is none = ap₂ standing_at is none
+
+-- ---- silence
+
+pub silent_more : {S : Type 0} {a b c : Talk S} → IsSilent a b → IsSilent b c → IsSilent a c
+silent_more {S} {a} {b} {c} first second = record {
+  unlogged = logs_more a.log b.log c.log [] [] first.unlogged second.unlogged;
+  hub_stays = second.hub_stays ∙ first.hub_stays;
+  stands = second.stands ∙ first.stands;
+}
+
+-- a peer that was told, or not, that no more comes
+pub finish_silent : {S : Type 0} (a : HubState S) (stage next : ConversationStage) (owed left : List ℕ) (u v : Option (List Act)) → next ≡ stage_after_finish stage → left ≡ owed → Logs u v []
+    → IsSilent (record { hub = a; standing = standing_at stage owed; log = u }) (record { hub = a; standing = standing_at next left; log = v })
+finish_silent a stage next owed left u v is same l = record {
+  unlogged = l;
+  hub_stays = refl;
+  stands = ap (λ (t : ConversationStage). standing_at t left) is ∙ ap (standing_at (stage_after_finish stage)) same ∙ finish_stands stage owed;
+}
 
 module _ {S : Type 0} (g : Ghosts S) (conn : ℕ) where
   pub talks_none : {a b : Talk S} → b.hub ≡ a.hub → b.standing ≡ a.standing → Logs a.log b.log [] → Converses g conn a b

@@ -1,6 +1,6 @@
 -- What the program's conversations do: one after another they go on, and the server with them.
 -- This project's own.
-use Rattle.std.specs.Prelude.{◌≡◌, ◌≤◌, ℕ, ◌+◌, List, Option}
+use Rattle.std.specs.Prelude.{◌≡◌, ◌≤◌, ℕ, ◌+◌, List, [], Option}
 use Rattle.std.specs.FinMap.{FinMap, insert, len}
 use Rattle.std.specs.Ordering.{nat_cmp}
 use Rattle.store.specs.declared.store.Store.{Ghosts}
@@ -72,3 +72,10 @@ with_talk others conn talk = record {
 -- A conversation goes on: its server does, whatever connections it has beside, and these stand as they did. None is accepted or opened.
 pub record Converses {S : Type 0} (g : Ghosts S) (conn : ℕ) (old new : Talk S) : Type 0 where
   pub goes_on : (most : ℕ) (others : FinMap nat_cmp Standing) → GoesOnWithin g most (with_talk others conn old) (with_talk others conn new)
+
+-- Nothing went through a connection in its turn: no act was logged, the hub is as it was, and the connection stands as it did. So a turn in
+-- which a piece came is never silent.
+pub record IsSilent {S : Type 0} (old new : Talk S) : Type 0 where
+  pub unlogged : Logs old.log new.log []
+  pub hub_stays : new.hub ≡ old.hub
+  pub stands : new.standing ≡ old.standing

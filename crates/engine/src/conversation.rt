@@ -3,11 +3,11 @@
 use crate::backlog::Backlog;
 use crate::flow::Flow;
 use crate::limits::Limits;
+use crate::queues::{Place, Queues};
 use crate::sockets::Sockets;
 use couch_http::{Fixed, Response};
 use hub::{FailureLog, Hub, Replies};
 use std::alloc::Global;
-use std::collections::VecDeque;
 use store::Store;
 
 /// How many seconds a client that gets no more replies may be silent.
@@ -15,6 +15,9 @@ const LAST_SILENCE: u64 = 2;
 
 /// How many pieces of one request are read in a turn at most.
 const PIECES: usize = 64;
+
+/// Where more bytes than these become owed by a piece, the next one is read behind those of others.
+const MUCH: usize = 1_048_576;
 
 /// How far a conversation is.
 #[derive(Clone, Copy, Debug, PartialEq, Eq)]
@@ -34,10 +37,27 @@ pub enum ConversationStage {
 pub enum Turn {
     /// It may have another at once.
     Again,
-    /// It waits until it is reported.
+    /// Bytes went through, and it waits until it is reported.
     Later,
+    /// Nothing went through, and it waits until it is reported.
+    Silent,
     /// It is over.
     Over,
+}
+
+impl Turn {
+    ghost use Rattle.std.specs.Prelude.{◌≢◌};
+
+    /// Returns what comes of a turn in which bytes went through before: it isn't silent.
+    fn after_bytes(self) -> Turn
+        ensures { result ≢ Turn.Silent }
+    {
+        match self {
+            Turn::Silent | Turn::Later => Turn::Later,
+            Turn::Again => Turn::Again,
+            Turn::Over => Turn::Over,
+        }
+    }
 }
 
 /// A connection: what it is owed, and how far it is.
@@ -47,19 +67,21 @@ pub struct Conversation {
     pub owed: Backlog,
     /// How far it is.
     pub stage: ConversationStage,
-    /// The second at which something last went through.
+    /// The server's second at which something last went through.
     pub since: u64,
-    /// The second at which a request began that is not whole, or at which the end began.
+    /// The server's second at which a request began that is not whole, or at which the end began.
     pub begun: Option<u64>,
-    /// It has a turn in this round or the next.
+    /// It has a turn to come.
     pub queued: bool,
+    /// More than 1 MiB became owed by its last piece.
+    pub owed_much: bool,
 }
 
 impl Conversation {
     ghost use Rattle.std.specs.Prelude.{◌≡◌, ◌≢◌, ℕ, List, [], true};
     ghost use Rattle.hub.specs.Service.{bytes_of, farewell};
     ghost use Rattle.engine.specs.Acts.{Logs};
-    ghost use Rattle.engine.specs.Conversing.{Converses, standing_of};
+    ghost use Rattle.engine.specs.Conversing.{Converses, IsSilent, standing_of};
     ghost use Rattle.engine.specs.Standing.{Owes, TakesPiece};
     ghost use Rattle.engine.specs.inner.Sending.{Sends, stage_after_finish};
 
@@ -74,35 +96,53 @@ impl Conversation {
             since: now,
             begun: None,
             queued: false,
+            owed_much: false,
         }
     }
 
     /// Tells whether nothing has gone through for too long, or a request is not whole for too long.
+    ///
+    /// Such a connection is ended once it has a turn by which nothing goes through.
     pub fn is_late(&self, now: u64, limits: &Limits) -> bool {
         let silence = match self.stage {
             ConversationStage::Open | ConversationStage::Last => limits.idle,
             ConversationStage::Ending | ConversationStage::Lost => LAST_SILENCE,
         };
-        let silent = now.saturating_sub(self.since) >= silence;
-        let slow = match self.begun {
-            Some(begun) => now.saturating_sub(begun) >= limits.request,
-            None => false,
-        };
-        silent || slow
+        now.saturating_sub(self.since) > silence || self.is_slow(now, limits)
     }
 
-    /// Joins the queue of those that have a turn, if it isn't in it. Where memory runs out it isn't.
-    pub(crate) fn join_queue(&mut self, queue: &mut VecDeque<u64>, conn: u64)
-        ensures owed { self.new.owed ≡ self.old.owed }
-        ensures stage { self.new.stage ≡ self.old.stage }
-    {
-        if !self.queued && queue.push_back(conn).is_ok() {
-            self.queued = true;
+    /// Tells whether a request is not whole for too long, or the end has lasted for as long.
+    fn is_slow(&self, now: u64, limits: &Limits) -> bool {
+        match self.begun {
+            Some(begun) => now.saturating_sub(begun) > limits.request,
+            None => false,
         }
     }
 
-    /// Takes a turn: writes what is owed; where nothing is left, reads a piece, feeds it, and writes the
-    /// replies.
+    /// Tells whether what comes behind the last reply was passed over for long enough.
+    pub fn is_drained(&self, now: u64, limits: &Limits) -> bool {
+        self.stage == ConversationStage::Ending && self.is_slow(now, limits)
+    }
+
+    /// Joins those that have a turn to come, if it isn't among them. Where memory runs out it doesn't.
+    ///
+    /// One to which much became owed by its last piece is to read the next one behind the others.
+    pub(crate) fn join(&mut self, queues: &mut Queues, conn: u64, place: Place)
+        ensures owed { self.new.owed ≡ self.old.owed }
+        ensures stage { self.new.stage ≡ self.old.stage }
+    {
+        if self.queued {
+            return;
+        }
+        self.queued = if self.owed_much && self.owed.len() == 0 {
+            queues.push(Place::Behind, conn)
+        } else {
+            queues.push(place, conn)
+        };
+    }
+
+    /// Takes a turn: writes what is owed; where nothing is, reads a piece, feeds it, and writes the
+    /// replies. The other pieces of the same request may follow.
     pub fn take_turn<S: Store + Drop, L: FailureLog + Drop, W: Sockets>(
         &mut self,
         hub: &mut Hub<S, L>,
@@ -111,7 +151,11 @@ impl Conversation {
         room: &mut [u8],
         now: u64,
     ) -> Turn
-        ensures { Converses S.Store conn (record { hub = hub.old; standing = standing_of self.old; log = W.log sockets.old })
+        ensures converses { Converses S.Store conn (record { hub = hub.old; standing = standing_of self.old; log = W.log sockets.old })
+            (record { hub = hub.new; standing = standing_of self.new; log = W.log sockets.new }) }
+
+        // Only where nothing was read and nothing written; one that is late is closed behind it.
+        ensures silent { result ≡ Turn.Silent → IsSilent (record { hub = hub.old; standing = standing_of self.old; log = W.log sockets.old })
             (record { hub = hub.new; standing = standing_of self.new; log = W.log sockets.new }) }
     {
         match self.stage {
@@ -132,25 +176,25 @@ impl Conversation {
         now: u64,
     ) -> Turn
         requires { self.old.stage ≢ ConversationStage.Lost }
-        ensures { Converses S.Store conn (record { hub = hub.old; standing = standing_of self.old; log = W.log sockets.old })
+        ensures converses { Converses S.Store conn (record { hub = hub.old; standing = standing_of self.old; log = W.log sockets.old })
+            (record { hub = hub.new; standing = standing_of self.new; log = W.log sockets.new }) }
+        ensures silent { result ≡ Turn.Silent → IsSilent (record { hub = hub.old; standing = standing_of self.old; log = W.log sockets.old })
             (record { hub = hub.new; standing = standing_of self.new; log = W.log sockets.new }) }
     {
-        match self.send(sockets, conn, now) {
-            Turn::Again => {}
-            Turn::Later => return Turn::Later,
-            Turn::Over => return Turn::Over,
-        }
         if self.owed.len() > 0 {
-            return Turn::Again;
+            return self.send(sockets, conn, now);
         }
         self.finish(sockets, conn, now);
         self.take_pieces(hub, sockets, conn, room, now)
     }
 
-    /// Writes what is owed. The answer is `Again` where it was taken, all or a part.
+    /// Writes what is owed. The answer is `Again` where it was taken, all or a part, and where nothing
+    /// is owed.
     fn send<W: Sockets>(&mut self, sockets: &mut W, conn: u64, now: u64) -> Turn
         ensures sent { Sends conn (W.log sockets.old) (W.log sockets.new) self.old.owed self.new.owed }
         ensures stage { self.new.stage ≡ self.old.stage }
+        ensures silent { result ≡ Turn.Silent → Logs (W.log sockets.old) (W.log sockets.new) [] }
+        ensures kept { result ≡ Turn.Silent → self.new.owed ≡ self.old.owed }
     {
         if self.owed.len() == 0 {
             return Turn::Again;
@@ -161,7 +205,7 @@ impl Conversation {
                 self.owed.take(count);
                 Turn::Again
             }
-            Flow::Later => Turn::Later,
+            Flow::Later => Turn::Silent,
             Flow::Never => Turn::Over,
         }
     }
@@ -194,13 +238,40 @@ impl Conversation {
     ) -> Turn
         requires stage { self.old.stage ≢ ConversationStage.Lost }
         requires owed { self.old.owed ≡ [] }
-        ensures { Converses S.Store conn (record { hub = hub.old; standing = standing_of self.old; log = W.log sockets.old })
+        ensures converses { Converses S.Store conn (record { hub = hub.old; standing = standing_of self.old; log = W.log sockets.old })
+            (record { hub = hub.new; standing = standing_of self.new; log = W.log sockets.new }) }
+        ensures silent { result ≡ Turn.Silent → IsSilent (record { hub = hub.old; standing = standing_of self.old; log = W.log sockets.old })
             (record { hub = hub.new; standing = standing_of self.new; log = W.log sockets.new }) }
     {
-        for _number in 0..PIECES {
+        let turn = self.take_next(hub, sockets, conn, room, now);
+        if turn != Turn::Again {
+            return turn;
+        }
+        if !self.is_within_request() {
+            return Turn::Again;
+        }
+        self.take_more(hub, sockets, conn, room, now)
+    }
+
+    /// Reads the next pieces of a request, behind one.
+    fn take_more<S: Store + Drop, L: FailureLog + Drop, W: Sockets>(
+        &mut self,
+        hub: &mut Hub<S, L>,
+        sockets: &mut W,
+        conn: u64,
+        room: &mut [u8],
+        now: u64,
+    ) -> Turn
+        requires stage { self.old.stage ≢ ConversationStage.Lost }
+        requires owed { self.old.owed ≡ [] }
+        ensures converses { Converses S.Store conn (record { hub = hub.old; standing = standing_of self.old; log = W.log sockets.old })
+            (record { hub = hub.new; standing = standing_of self.new; log = W.log sockets.new }) }
+        ensures bytes { result ≢ Turn.Silent }
+    {
+        for _number in 1..PIECES {
             let turn = self.take_next(hub, sockets, conn, room, now);
             if turn != Turn::Again {
-                return turn;
+                return turn.after_bytes();
             }
             if !self.is_within_request() {
                 return Turn::Again;
@@ -228,7 +299,9 @@ impl Conversation {
     ) -> Turn
         requires stage { self.old.stage ≢ ConversationStage.Lost }
         requires owed { self.old.owed ≡ [] }
-        ensures { Converses S.Store conn (record { hub = hub.old; standing = standing_of self.old; log = W.log sockets.old })
+        ensures converses { Converses S.Store conn (record { hub = hub.old; standing = standing_of self.old; log = W.log sockets.old })
+            (record { hub = hub.new; standing = standing_of self.new; log = W.log sockets.new }) }
+        ensures silent { result ≡ Turn.Silent → IsSilent (record { hub = hub.old; standing = standing_of self.old; log = W.log sockets.old })
             (record { hub = hub.new; standing = standing_of self.new; log = W.log sockets.new }) }
     {
         match sockets.read(conn, room) {
@@ -237,7 +310,7 @@ impl Conversation {
                 self.feed_hub(hub, conn, &room[..count], now);
                 self.send_replies(sockets, conn, now, more)
             }
-            Flow::Later => Turn::Later,
+            Flow::Later => Turn::Silent,
             Flow::Never => Turn::Over,
         }
     }
@@ -247,12 +320,13 @@ impl Conversation {
         ensures stage { self.new.stage ≡ self.old.stage }
         ensures lost { self.old.stage ≡ ConversationStage.Lost → W.log sockets.new ≡ W.log sockets.old }
         ensures sent { self.old.stage ≢ ConversationStage.Lost → Sends conn (W.log sockets.old) (W.log sockets.new) self.old.owed self.new.owed }
+        ensures bytes { result ≢ Turn.Silent }
     {
         match self.stage {
             ConversationStage::Lost => return Turn::Over,
             ConversationStage::Open | ConversationStage::Last | ConversationStage::Ending => {}
         }
-        let sent = self.send(sockets, conn, now);
+        let sent = self.send(sockets, conn, now).after_bytes();
         if sent == Turn::Again
             && !more
             && self.stage == ConversationStage::Open
@@ -300,6 +374,7 @@ impl Conversation {
             Ok(replies) => {
                 self.note_request(replies.list.len() > 0, now);
                 self.owe_replies(&replies);
+                self.owed_much = self.owed.len() > MUCH;
             }
             Err(_) => {
                 hub.close(conn);

@@ -10,6 +10,7 @@ mod limits;
 mod log_entry;
 mod memory_client;
 mod memory_sockets;
+mod queues;
 mod serving;
 mod sockets;
 

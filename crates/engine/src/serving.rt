@@ -15,10 +15,11 @@ use crate::conversation::{Conversation, Turn};
 use crate::fault::EngineFault;
 use crate::flow::Accepted;
 use crate::limits::Limits;
+use crate::queues::{Place, Queues};
 use crate::sockets::Sockets;
 use hub::{FailureLog, Hub};
 use std::alloc::Global;
-use std::collections::{BTreeMap, VecDeque};
+use std::collections::BTreeMap;
 use store::Store;
 
 /// How many bytes a piece has at most.
@@ -32,11 +33,13 @@ const REPORTS: usize = 1_024;
 struct Conversations {
     alloc: Global,
     conversations: BTreeMap<u64, Conversation>,
-    // those that have a turn in this round or the next
-    queue: VecDeque<u64>,
+    queues: Queues,
     // more connections may wait to be accepted
     waiting: bool,
     accepted: u64,
+    // what the last wait told
+    second: u64,
+    // the seconds that count: a round is one at most, so that nobody is charged for a stall
     now: u64,
 }
 
@@ -44,9 +47,10 @@ struct Conversations {
 /// any more. One that was reset before it was accepted counts.
 ///
 /// Each whole request is handled one after the other, in the order in which their last bytes come. A
-/// connection is read only where nothing is owed to it, and closed where it is silent for too long, or
-/// a request of it is not whole for too long. Where memory runs out, its connection has the fixed reply
-/// with status 503, and ends; the others go on.
+/// connection is read only where nothing is owed to it. It is closed where it is silent for too long,
+/// or a request of it is not whole for too long, once it has a turn by which nothing goes through.
+/// Where memory runs out, its connection has the fixed reply with status 503, and ends; the others go
+/// on.
 ///
 /// `Socket`: nothing can be waited for, or a connection not be accepted. `Waits`: it waited 2^64 - 1
 /// times.
@@ -76,9 +80,10 @@ impl Conversations {
         Conversations {
             alloc,
             conversations: BTreeMap::new(alloc),
-            queue: VecDeque::new(alloc),
+            queues: Queues::new(alloc),
             waiting: true,
             accepted: 0,
+            second: 0,
             now: 0,
         }
     }
@@ -108,6 +113,9 @@ impl Conversations {
     }
 
     /// Waits once, accepts what waits, and gives each connection that may be ready a turn.
+    ///
+    /// Of those to which much became owed by their last piece only the first one has a turn, behind the
+    /// others.
     fn take_round<S: Store + Drop, L: FailureLog + Drop, W: Sockets>(
         &mut self,
         hub: &mut Hub<S, L>,
@@ -121,21 +129,35 @@ impl Conversations {
             (state_of hub.new self.new.conversations.entries self.new.accepted (W.log sockets.new)) }
         ensures accepted { self.new.accepted ≤ limits.now.conns }
     {
-        let wait = self.queue.is_empty() && !self.can_accept(limits);
-        let Ok(now) = sockets.wait(wait) else {
+        let wait = self.queues.is_empty() && !self.can_accept(limits);
+        let Ok(second) = sockets.wait(wait) else {
             return Err(EngineFault::Socket);
         };
-        let ticked = now != self.now;
-        self.now = now;
-        // one that could not be accepted is tried again each second
-        self.waiting |= ticked;
+        self.note_second(second, limits);
         self.note_ready(sockets);
         self.accept_all(hub, sockets, limits)?;
-        self.take_turns(hub, sockets, room);
-        if ticked {
-            self.close_late(hub, sockets, limits);
-        }
+        self.take_turns(hub, sockets, room, limits);
+        self.take_behind(hub, sockets, room, limits);
         Ok(())
+    }
+
+    /// Notes the second that it is. Where it is another one, each connection that is late has a turn,
+    /// behind which it may be closed.
+    fn note_second(&mut self, second: u64, limits: &Limits)
+        ensures alike { standings_of self.new.conversations.entries ≡ standings_of self.old.conversations.entries }
+        ensures accepted { self.new.accepted ≡ self.old.accepted }
+    {
+        if second == self.second {
+            return;
+        }
+        self.second = second;
+        self.now = self.now.saturating_add(1);
+        // one that could not be accepted is tried again each second
+        self.waiting = true;
+        let late = self.late(limits);
+        for conn in &late {
+            self.note(*conn, Place::Ready);
+        }
     }
 
     /// Tells whether one more connection may be accepted, and one may wait.
@@ -155,20 +177,20 @@ impl Conversations {
             match sockets.ready(at) {
                 None => return,
                 Some(0) => self.waiting = true,
-                Some(conn) => self.note(conn),
+                Some(conn) => self.note(conn, Place::Ready),
             }
         }
     }
 
-    /// Gives a connection a turn in this round, if it has none yet.
-    fn note(&mut self, conn: u64)
+    /// Gives a connection a turn to come, if it has none yet.
+    fn note(&mut self, conn: u64, place: Place)
         ensures alike { standings_of self.new.conversations.entries ≡ standings_of self.old.conversations.entries }
         ensures accepted { self.new.accepted ≡ self.old.accepted }
     {
         let Some(conversation) = self.conversations.get_mut(&conn) else {
             return;
         };
-        conversation.join_queue(&mut self.queue, conn);
+        conversation.join(&mut self.queues, conn, place);
     }
 
     /// Accepts connections that wait, as many as may be.
@@ -232,7 +254,7 @@ impl Conversations {
             return;
         };
         if self.begin(sockets, conn) {
-            self.note(conn);
+            self.note(conn, Place::Ready);
         } else {
             self.end(hub, sockets, conn);
         }
@@ -254,24 +276,44 @@ impl Conversations {
         self.conversations.insert(conn, conversation).is_ok()
     }
 
-    /// Gives each connection of the queue a turn.
+    /// Gives each connection a turn that has one in this round, those that are newly ready first.
     fn take_turns<S: Store + Drop, L: FailureLog + Drop, W: Sockets>(
         &mut self,
         hub: &mut Hub<S, L>,
         sockets: &mut W,
         room: &mut [u8],
+        limits: &Limits,
     )
         ensures goes_on { (most : ℕ) → GoesOnWithin S.Store most
             (state_of hub.old self.old.conversations.entries self.old.accepted (W.log sockets.old))
             (state_of hub.new self.new.conversations.entries self.new.accepted (W.log sockets.new)) }
         ensures accepted { self.new.accepted ≡ self.old.accepted }
     {
-        for _number in 0..self.queue.len() {
-            let Some(conn) = self.queue.pop_front() else {
+        for _number in 0..self.queues.count() {
+            let Some(conn) = self.queues.take_next() else {
                 return;
             };
-            self.take_turn(hub, sockets, conn, room);
+            self.take_turn(hub, sockets, conn, room, limits);
         }
+    }
+
+    /// Gives the first of those a turn that wait until each other one had one.
+    fn take_behind<S: Store + Drop, L: FailureLog + Drop, W: Sockets>(
+        &mut self,
+        hub: &mut Hub<S, L>,
+        sockets: &mut W,
+        room: &mut [u8],
+        limits: &Limits,
+    )
+        ensures goes_on { (most : ℕ) → GoesOnWithin S.Store most
+            (state_of hub.old self.old.conversations.entries self.old.accepted (W.log sockets.old))
+            (state_of hub.new self.new.conversations.entries self.new.accepted (W.log sockets.new)) }
+        ensures accepted { self.new.accepted ≡ self.old.accepted }
+    {
+        let Some(conn) = self.queues.take_behind() else {
+            return;
+        };
+        self.take_turn(hub, sockets, conn, room, limits);
     }
 
     /// Gives a connection a turn.
@@ -281,17 +323,15 @@ impl Conversations {
         sockets: &mut W,
         conn: u64,
         room: &mut [u8],
+        limits: &Limits,
     )
         ensures goes_on { (most : ℕ) → GoesOnWithin S.Store most
             (state_of hub.old self.old.conversations.entries self.old.accepted (W.log sockets.old))
             (state_of hub.new self.new.conversations.entries self.new.accepted (W.log sockets.new)) }
         ensures accepted { self.new.accepted ≡ self.old.accepted }
     {
-        match self.turn_of(hub, sockets, conn, room) {
-            Turn::Over => self.end(hub, sockets, conn),
-            Turn::Again => self.note(conn),
-            Turn::Later => {}
-        }
+        let turn = self.turn_of(hub, sockets, conn, room, limits);
+        self.follow(hub, sockets, conn, turn, limits);
     }
 
     /// Gives a connection a turn, if it is still there.
@@ -301,6 +341,7 @@ impl Conversations {
         sockets: &mut W,
         conn: u64,
         room: &mut [u8],
+        limits: &Limits,
     ) -> Turn
         ensures goes_on { (most : ℕ) → GoesOnWithin S.Store most
             (state_of hub.old self.old.conversations.entries self.old.accepted (W.log sockets.old))
@@ -311,7 +352,67 @@ impl Conversations {
             return Turn::Later;
         };
         conversation.queued = false;
+        if conversation.is_drained(self.now, limits) {
+            return Turn::Over;
+        }
         conversation.take_turn(hub, sockets, conn, room, self.now)
+    }
+
+    /// Does what follows a turn: ends the connection, or gives it another one where it is to have it.
+    fn follow<S: Store + Drop, L: FailureLog + Drop, W: Sockets>(
+        &mut self,
+        hub: &mut Hub<S, L>,
+        sockets: &mut W,
+        conn: u64,
+        turn: Turn,
+        limits: &Limits,
+    )
+        ensures goes_on { (most : ℕ) → GoesOnWithin S.Store most
+            (state_of hub.old self.old.conversations.entries self.old.accepted (W.log sockets.old))
+            (state_of hub.new self.new.conversations.entries self.new.accepted (W.log sockets.new)) }
+        ensures accepted { self.new.accepted ≡ self.old.accepted }
+        // Nobody is closed behind a turn by which bytes went through.
+        ensures again { turn ≡ Turn.Again → standings_of self.new.conversations.entries ≡ standings_of self.old.conversations.entries }
+        ensures later { turn ≡ Turn.Later → standings_of self.new.conversations.entries ≡ standings_of self.old.conversations.entries }
+    {
+        if self.is_ended(conn, turn, limits) {
+            self.end(hub, sockets, conn);
+        } else {
+            self.note_next(conn, turn, limits);
+        }
+    }
+
+    /// Tells whether a connection ends behind a turn: where it is over, or where it is late and nothing
+    /// went through.
+    fn is_ended(&self, conn: u64, turn: Turn, limits: &Limits) -> bool
+        ensures again { turn ≡ Turn.Again → result ≡ false }
+        ensures later { turn ≡ Turn.Later → result ≡ false }
+    {
+        match turn {
+            Turn::Over => true,
+            Turn::Silent => self.is_late(conn, limits),
+            Turn::Again => false,
+            Turn::Later => false,
+        }
+    }
+
+    /// Gives a connection another turn where its last one may go on, or where bytes went through and it
+    /// is late.
+    fn note_next(&mut self, conn: u64, turn: Turn, limits: &Limits)
+        ensures alike { standings_of self.new.conversations.entries ≡ standings_of self.old.conversations.entries }
+        ensures accepted { self.new.accepted ≡ self.old.accepted }
+    {
+        if turn == Turn::Again || self.is_late(conn, limits) {
+            self.note(conn, Place::Again);
+        }
+    }
+
+    /// Tells whether a connection is silent, or slow, for too long.
+    fn is_late(&self, conn: u64, limits: &Limits) -> bool {
+        match self.conversations.get(&conn) {
+            Some(conversation) => conversation.is_late(self.now, limits),
+            None => false,
+        }
     }
 
     /// Ends a connection.
@@ -329,24 +430,6 @@ impl Conversations {
         self.conversations.remove(&conn);
         hub.close(conn);
         sockets.close(conn);
-    }
-
-    /// Ends the connections that are silent, or slow, for too long.
-    fn close_late<S: Store + Drop, L: FailureLog + Drop, W: Sockets>(
-        &mut self,
-        hub: &mut Hub<S, L>,
-        sockets: &mut W,
-        limits: &Limits,
-    )
-        ensures goes_on { (most : ℕ) → GoesOnWithin S.Store most
-            (state_of hub.old self.old.conversations.entries self.old.accepted (W.log sockets.old))
-            (state_of hub.new self.new.conversations.entries self.new.accepted (W.log sockets.new)) }
-        ensures accepted { self.new.accepted ≡ self.old.accepted }
-    {
-        let late = self.late(limits);
-        for conn in &late {
-            self.end(hub, sockets, *conn);
-        }
     }
 
     /// Returns the connections that are silent, or slow, for too long.

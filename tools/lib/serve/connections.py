@@ -4,13 +4,15 @@ from __future__ import annotations
 import argparse
 import contextlib
 import functools
+import selectors
 import socket
+import statistics
 import threading
 import time
-from collections.abc import Callable, Iterable
+from collections.abc import Callable, Iterable, Iterator
 
 from lib.checks import compare
-from lib.server import WELCOME, Server, asks, connected, first_revision, received, reply, request, rest_of
+from lib.server import WELCOME, Server, asks, connected, first_revision, received, reply, reply_of, request, rest_of
 
 AT_ONCE = 60
 
@@ -197,8 +199,58 @@ def check_ends(options: argparse.Namespace, file: str) -> None:
     server.ended("ends within requests")
 
 
+def seconds_of_get(port: int, path: str) -> float:
+    """Returns how many seconds a GET takes on a connection of its own."""
+    begun = time.monotonic()
+    with connected(port) as made:
+        made.sendall(request("GET", path))
+        compare("a long reply", b"HTTP/1.1 200 OK\r\n", reply_of(made)[0][:17])
+    return time.monotonic() - begun
+
+
+@contextlib.contextmanager
+def sending_ahead(port: int, path: str, clients: int) -> Iterator[None]:
+    """Has clients that send a hundred GETs ahead, and take what comes as it comes."""
+    with contextlib.ExitStack() as open_ones:
+        selector = open_ones.enter_context(selectors.DefaultSelector())
+        for _ in range(clients):
+            made = open_ones.enter_context(connected(port))
+            made.sendall(request("GET", path) * 100)
+            selector.register(made, selectors.EVENT_READ, made)
+        stopped = threading.Event()
+
+        def take() -> None:
+            while not stopped.is_set():
+                for key, _ in selector.select(0.1):
+                    with contextlib.suppress(OSError):
+                        if not key.data.recv(1_048_576):
+                            selector.unregister(key.data)
+
+        taking = start_all([take])
+        yield
+        stopped.set()
+        for thread in taking:
+            thread.join()
+
+
+def check_polite(options: argparse.Namespace, file: str) -> None:
+    """A GET of 2 MB takes at most twenty times its time alone beside fifty clients that send such GETs ahead."""
+    server = Server(options, file, 57, at_once=AT_ONCE)
+    body = {"v": "x" * 2_000_000}
+    with connected(server.port) as made:
+        asks("a database", made, request("PUT", "/db"), reply(201, {"ok": True}))
+        asks("a long document", made, request("PUT", "/db/long", body), reply(201, {"id": "long", "ok": True, "rev": first_revision(body)}))
+    alone = statistics.median(seconds_of_get(server.port, "/db/long") for _ in range(3))
+    with sending_ahead(server.port, "/db/long", 50):
+        time.sleep(1)
+        beside = statistics.median(seconds_of_get(server.port, "/db/long") for _ in range(3))
+    compare(f"a GET beside fifty that are sent ahead ({beside:.2f} s, {alone:.2f} s alone): is it within twenty times its time", True, beside <= 20 * alone)
+    server.ended("requests for long replies")
+
+
 def check(options: argparse.Namespace, folder: str) -> None:
     """Opens many connections at once."""
+    check_polite(options, f"{folder}/polite.db")
     check_sizes(options, f"{folder}/sizes.db")
     check_ends(options, f"{folder}/ends.db")
     check_clients(options, f"{folder}/clients.db")

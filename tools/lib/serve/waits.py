@@ -4,12 +4,14 @@ from __future__ import annotations
 import argparse
 import concurrent.futures
 import contextlib
+import signal
+import socket
 import time
 from collections.abc import Iterator
 
 from lib.checks import compare
 from lib.serve.connections import drip, start_all
-from lib.server import WELCOME, Server, asks, connected, first_revision, reply, request, rest_of
+from lib.server import WELCOME, Server, asks, connected, first_revision, received, reply, request, rest_of
 
 
 def check_silent(options: argparse.Namespace, file: str) -> None:
@@ -60,8 +62,40 @@ def check_takes_nothing(options: argparse.Namespace, file: str) -> None:
     server.ended("a client that takes nothing")
 
 
+def send_all(made: socket.socket, sent: bytes) -> None:
+    """Sends bytes, until the server ends the connection; nothing is told."""
+    with contextlib.suppress(OSError):
+        made.sendall(sent)
+
+
+def check_stall(options: argparse.Namespace, file: str) -> None:
+    """A server that stalls for 32 seconds doesn't charge its clients: one within a large document, and one within a head, go on."""
+    server = Server(options, file, 2, at_once=2)
+    with connected(server.port) as large, connected(server.port) as small:
+        asks("a database", large, request("PUT", "/db"), reply(201, {"ok": True}))
+        body = {"v": "x" * 4_000_000}
+        sent = request("PUT", "/db/large", body)
+        head = request("GET", "/", user=None)
+        large.sendall(sent[:100_000])
+        small.sendall(head[:10])
+        time.sleep(1)
+        server.process.send_signal(signal.SIGSTOP)
+        start_all([lambda: send_all(large, sent[100_000:])])
+        time.sleep(32)
+        server.process.send_signal(signal.SIGCONT)
+        time.sleep(2)
+        send_all(small, head[10:])
+        wanted = reply(201, {"id": "large", "ok": True, "rev": first_revision(body)})
+        for what, made, told in [("a large document that was being sent in a stall", large, wanted), ("a head that ends behind a stall", small, WELCOME)]:
+            got = b""
+            with contextlib.suppress(OSError):
+                got = received(made, len(told))
+            compare(what, told, got)
+    server.ended("a stall")
+
+
 # They mostly wait, each with a file of its own.
-CHECKS = [(check_silent, "silent.db"), (check_idle, "idle.db"), (check_takes_nothing, "nothing.db")]
+CHECKS = [(check_silent, "silent.db"), (check_idle, "idle.db"), (check_takes_nothing, "nothing.db"), (check_stall, "stall.db")]
 
 
 def check(options: argparse.Namespace, folder: str) -> None:

@@ -1,4 +1,4 @@
-use Rattle.std.proofs.Common.{refl, arith}
+use Rattle.std.proofs.Common.{◌∙◌, refl, arith}
 use Rattle.engine.proofs.Deeds.{goes_more, goes_none}
 use Rattle.engine.proofs.Steps.{goes_alike}
 use Rattle.engine.proofs.serving.Conversations.take_round.Goals as goal
@@ -10,31 +10,21 @@ pub returns-in_err-accept_all-clause-goes_on : goal.returns-in_err-accept_all-cl
 returns-in_err-accept_all-clause-goes_on g c =
     goes_more g.S.Store
     (goes_alike g.S.Store c.args.hub.now c.args.hub.now c.args.self.now.conversations.entries c.note_ready.new.self.conversations.entries c.args.self.now.accepted c.note_ready.new.self.accepted
-    (g.W.Sockets.log c.args.sockets.now) (g.W.Sockets.log c.wait.new.self) refl c.note_ready.ensures.alike c.note_ready.ensures.accepted c.wait.ensures)
+    (g.W.Sockets.log c.args.sockets.now) (g.W.Sockets.log c.wait.new.self) refl (c.note_ready.ensures.alike ∙ c.note_second.ensures.alike)
+    (c.note_ready.ensures.accepted ∙ c.note_second.ensures.accepted) c.wait.ensures)
     refl c.accept_all.ensures.goes_on
 
-pub returns-then-ticked-clause-goes_on : goal.returns-then-ticked-clause-goes_on
-returns-then-ticked-clause-goes_on g c =
+pub returns-clause-goes_on : goal.returns-clause-goes_on
+returns-clause-goes_on g c =
     goes_more g.S.Store
     (goes_more g.S.Store
     (goes_more g.S.Store
     (goes_alike g.S.Store c.args.hub.now c.args.hub.now c.args.self.now.conversations.entries c.note_ready.new.self.conversations.entries c.args.self.now.accepted c.note_ready.new.self.accepted
-    (g.W.Sockets.log c.args.sockets.now) (g.W.Sockets.log c.wait.new.self) refl c.note_ready.ensures.alike c.note_ready.ensures.accepted c.wait.ensures)
+    (g.W.Sockets.log c.args.sockets.now) (g.W.Sockets.log c.wait.new.self) refl (c.note_ready.ensures.alike ∙ c.note_second.ensures.alike)
+    (c.note_ready.ensures.accepted ∙ c.note_second.ensures.accepted) c.wait.ensures)
     refl c.accept_all.ensures.goes_on)
     refl (c.take_turns.ensures.goes_on c.args.limits.now.at_once))
-    refl (c.close_late.ensures.goes_on c.args.limits.now.at_once)
+    refl (c.take_behind.ensures.goes_on c.args.limits.now.at_once)
 
-pub returns-else-ticked-clause-goes_on : goal.returns-else-ticked-clause-goes_on
-returns-else-ticked-clause-goes_on g c =
-    goes_more g.S.Store
-    (goes_more g.S.Store
-    (goes_alike g.S.Store c.args.hub.now c.args.hub.now c.args.self.now.conversations.entries c.note_ready.new.self.conversations.entries c.args.self.now.accepted c.note_ready.new.self.accepted
-    (g.W.Sockets.log c.args.sockets.now) (g.W.Sockets.log c.wait.new.self) refl c.note_ready.ensures.alike c.note_ready.ensures.accepted c.wait.ensures)
-    refl c.accept_all.ensures.goes_on)
-    refl (c.take_turns.ensures.goes_on c.args.limits.now.at_once)
-
-pub returns-then-ticked-clause-accepted : goal.returns-then-ticked-clause-accepted
-returns-then-ticked-clause-accepted g c = omega (arith, c.close_late.ensures.accepted, c.take_turns.ensures.accepted, c.accept_all.ensures.accepted)
-
-pub returns-else-ticked-clause-accepted : goal.returns-else-ticked-clause-accepted
-returns-else-ticked-clause-accepted g c = omega (arith, c.take_turns.ensures.accepted, c.accept_all.ensures.accepted)
+pub returns-clause-accepted : goal.returns-clause-accepted
+returns-clause-accepted g c = omega (arith, c.take_behind.ensures.accepted, c.take_turns.ensures.accepted, c.accept_all.ensures.accepted)

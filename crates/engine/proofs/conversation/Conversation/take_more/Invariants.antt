@@ -1,7 +1,7 @@
 use Rattle.std.proofs.Common.{◌≡◌, ◌≢◌, []}
 use Rattle.engine.specs.Conversing.{Converses, standing_of}
 use Rattle.engine.specs.declared.conversation.ConversationStage.TheVariants.{Lost}
-use Rattle.engine.proofs.conversation.Conversation.take_pieces.Given as goal
+use Rattle.engine.proofs.conversation.Conversation.take_more.Given as goal
 
 -- acts of this connection led here, where nothing is owed to it
 abbrev pub invariant-loop-number : goal.invariant-loop-number
