@@ -108,8 +108,8 @@ fn push_item(items: Option<Vec<Json>>, item: Option<Json>) -> Result<Option<Vec<
     Ok(Some(items))
 }
 
-/// Makes room for one more element. Room doubles from one element on, where a push would begin with four:
-/// most arrays are short.
+/// Makes room for one more element. Room doubles from one element on, where a push would begin with
+/// four: most arrays are short.
 fn make_room(items: &mut Vec<Json>) -> Got<()>
     ensures { items.new.items ≡ items.old.items }
 {

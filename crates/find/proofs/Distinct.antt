@@ -1,9 +1,8 @@
 -- A sort by fields, of which one may stand there twice, is that by each of them once.
-use Rattle.std.proofs.Common.{◌≡◌, ◌&&◌, ◌||◌, ◌⊎◌, Bool, true, false, cond, bytes_eq, ℕ, List, [], ◌∷◌, ◌++◌, Ordering, Option, Some, None, map, option_map, append-nil, append_assoc, refl, sym, ap, ap₂, subst, ◌∙◌, inl, inr}
+use Rattle.std.proofs.Common.{◌≡◌, ◌&&◌, ◌||◌, Bool, true, false, cond, bytes_eq, ℕ, List, [], ◌∷◌, ◌++◌, Ordering, Option, Some, None, map, option_map, append-nil, append_assoc, refl, sym, ap, ap₂, subst, ◌∙◌, inl, inr}
 use Rattle.std.proofs.lemmas.Slice.Eq.{bytes_eq-Decides}
 use Rattle.std.specs.FinMap.{put}
 use Rattle.std.specs.FinMap.Entries.{by_order}
-use Rattle.std.specs.List.{list_any}
 use Rattle.std.specs.Cmp.Lexicographic.{slice_cmp}
 use Rattle.std.specs.Ordering.{nat_cmp, ordering_then}
 use Rattle.std.specs.Prelude.{is_some}
@@ -16,7 +15,7 @@ use Rattle.store.specs.Database.{Database}
 use Rattle.store.specs.Indexes.{IndexPlace, field_values, place_order, put_at_values, put_in_index, values_with}
 use Rattle.find.proofs.Covered.{exact, from_one}
 use Rattle.find.specs.inner.Candidates.{put_candidates}
-use Rattle.find.specs.inner.Kept.{distinct, distinct_with, is_among, put_distinct}
+use Rattle.find.specs.inner.Kept.{distinct, distinct_with, is_among}
 use Rattle.find.specs.inner.Matching.{match_in}
 
 -- ---- what goes over fields, and passes over one that came before

@@ -1,6 +1,6 @@
-//! Finds over documents in any order: the places of those that match are sorted first, and of these no more are
-//! kept than the part that is asked for reaches. Then the documents of the part are read again, so that no others
-//! are held. Those that it leaves out are not.
+//! Finds over documents in any order: the places of those that match are sorted first, and of these
+//! no more are kept than the part that is asked for reaches. Then the documents of the part are read
+//! again, so that no others are held. Those that it leaves out are not.
 
 ghost use Rattle.std.specs.Prelude.{◌≡◌, ◌+◌, ◌<◌, ℕ, [], IfOk, IfErr, None, OnOk, Some, drop, false, length, map as each, is_some, nat_lt, option_map, take, true};
 ghost use Rattle.std.specs.FinMap as map;
@@ -55,7 +55,8 @@ pub(crate) fn find_sorted<S: Store>(
     Ok(part.documents)
 }
 
-/// Sorts the places of the documents of a source that match, as many as the part of the query reaches.
+/// Sorts the places of the documents of a source that match, as many as the part of the query
+/// reaches.
 fn sort_matches<S: Store>(
     alloc: Global,
     store: &mut S,
@@ -144,8 +145,8 @@ fn put_match<S: Store>(
     Ok(())
 }
 
-/// Puts in the place of a document, if it has all the fields, and lets those go that the part of the query
-/// doesn't reach.
+/// Puts in the place of a document, if it has all the fields, and lets those go that the part of the
+/// query doesn't reach.
 fn put_place(
     alloc: Global,
     sorting: &Sorting<'_>,
@@ -163,7 +164,8 @@ fn put_place(
     Ok(())
 }
 
-/// Drops the last places in the direction of the query, so that no more are left than its part reaches.
+/// Drops the last places in the direction of the query, so that no more are left than its part
+/// reaches.
 fn drop_beyond(places: &mut BTreeSet<KeyRow>, query: &Query)
     ensures { places.new.keys ≡ kept_of query.now places.old.keys }
 {
