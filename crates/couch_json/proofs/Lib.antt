@@ -1,6 +1,7 @@
 pub mod Depths
 pub mod Items
 pub mod Objects
+mod TextKeys
 pub mod Texts
 pub mod Readings
 pub mod Turns

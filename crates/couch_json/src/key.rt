@@ -1,4 +1,5 @@
-ghost use Rattle.std.specs.Prelude.{◌≡◌, ◌++◌, IfOk, OnOk};
+ghost use Rattle.std.specs.Prelude.{◌≡◌, ◌<◌, ◌==◌, ◌++◌, ◌∷◌, [], IfOk, IfSome, MatchOption, OnOk, length};
+ghost use Rattle.std.specs.List.{position};
 ghost use Rattle.couch_json.specs.Key.{height, items_key, key, members_key, number_key, text_key};
 ghost use Rattle.couch_json.specs.Lawful.{IsLawful};
 ghost use Rattle.couch_json.specs.View.{view, items_view, members_view};
@@ -67,18 +68,35 @@ fn height_of(number: Number) -> u128
     (number.value() + (1 << 63)) as u128
 }
 
+/// Puts a text run by run: each byte 0 ends a run.
 fn put_text(out: &mut Vec<u8>, bytes: &[u8]) -> Got<()>
     ensures { OnOk result (out.new.items ≡ out.old.items ++ text_key bytes.now) }
 {
-    for byte in bytes {
-        out.push(*byte)?;
-        if *byte == 0 {
-            out.push(255)?;
-        }
+    let mut rest = bytes;
+    'runs: while let Some((run, behind)) = split_at_zero(rest) {
+        out.extend_from_slice(run)?;
+        out.extend_from_slice(&[0, 255])?;
+        rest = behind;
     }
-    out.push(0)?;
-    out.push(0)?;
+    out.extend_from_slice(rest)?;
+    out.extend_from_slice(&[0, 0])?;
     Ok(())
+}
+
+/// Splits a text at its first byte 0, where there is one.
+fn split_at_zero(bytes: &[u8]) -> Option<(&[u8], &[u8])>
+    ensures key { MatchOption result (text_key bytes.now ≡ bytes.now ++ 0 ∷ 0 ∷ [])
+        (λ parts. text_key bytes.now ≡ parts.0.now ++ 0 ∷ 255 ∷ text_key parts.1.now) }
+    ensures shorter { IfSome result (λ parts. length parts.1.now < length bytes.now) }
+{
+    let zero = find_zero(bytes)?;
+    Some((&bytes[..zero], &bytes[zero + 1..]))
+}
+
+fn find_zero(bytes: &[u8]) -> Option<usize>
+    ensures { result ≡ position (λ byte. byte == 0) bytes.now }
+{
+    bytes.iter().position(|byte| *byte == 0)
 }
 
 #[cycle(key)]

@@ -7,11 +7,13 @@ ghost use Rattle.couch_json.specs.Value.{no_members};
 ghost use Rattle.couch_json.specs.View.{view, items_view, members_view};
 
 use crate::fault::JsonFault;
+use crate::no_memory::Got;
 use crate::numeral::read_number;
 use crate::value::Json;
 use json::{Reader, Token};
 use name_map::NameMap;
 use std::alloc::Global;
+use std::cmp::max;
 use std::collections::BTreeMap;
 
 /// Reads one value, which may nest `depth` deep. `None` says that it was read, and that a number of it
@@ -76,7 +78,17 @@ fn read_items(
         let item = read_value(alloc, reader, depth)?;
         found = push_item(found, item)?;
     }
-    Ok(found)
+    Ok(fit_items(found))
+}
+
+/// Gives back the room behind the elements.
+fn fit_items(items: Option<Vec<Json>>) -> Option<Vec<Json>>
+    ensures { option_map (λ vs. items_view vs.items) result
+        ≡ option_map (λ vs. items_view vs.items) items }
+{
+    let mut items = items?;
+    items.shrink_to_fit();
+    Some(items)
 }
 
 /// Puts the element behind the others, where all of them have values.
@@ -91,8 +103,20 @@ fn push_item(items: Option<Vec<Json>>, item: Option<Json>) -> Result<Option<Vec<
     let Some(item) = item else {
         return Ok(None);
     };
+    make_room(&mut items)?;
     items.push(item)?;
     Ok(Some(items))
+}
+
+/// Makes room for one more element. Room doubles from one element on, where a push would begin with
+/// four: most arrays are short.
+fn make_room(items: &mut Vec<Json>) -> Got<()>
+    ensures { items.new.items ≡ items.old.items }
+{
+    if items.len() == items.capacity() {
+        items.reserve_exact(max(1, items.len()))?;
+    }
+    Ok(())
 }
 
 /// Reads the members of an object, behind the brace that opens it and up to the one that closes it.

@@ -88,7 +88,7 @@ both_equal Less b e = absurd cc
 both_equal Equal b e = (refl, e)
 both_equal Greater b e = absurd cc
 
-exact : (p q : IndexPlace) → place_order p q ≡ Equal → p ≡ q
+pub exact : (p q : IndexPlace) → place_order p q ≡ Equal → p ≡ q
 exact p q e =
     let both = both_equal (collation p.key q.key) (slice_cmp nat_cmp p.id q.id) e in
     let key = collation_tied p.key q.key both.0 in
@@ -106,7 +106,7 @@ abbrev pub IsMatch : List (List ℕ) → Value → Database → IndexPlace × Va
 IsMatch fields selector db x = (match_in selector db x.0.id ≡ Some x.1) × (option_map array (field_values fields x.1) ≡ Some x.0.key)
 
 module _ (fields : List (List ℕ)) where
-  from_one : (id : List ℕ) (o : Option Value) (es : List (IndexPlace × Value)) (x : IndexPlace × Value) → In (put_in_index fields id o es) x → IsAt fields id o x ⊎ In es x
+  pub from_one : (id : List ℕ) (o : Option Value) (es : List (IndexPlace × Value)) (x : IndexPlace × Value) → In (put_in_index fields id o es) x → IsAt fields id o x ⊎ In es x
   from_one id None es x i = inr i
   from_one id (Some v) es x i = by (field_values fields v) refl i
     where

@@ -5,6 +5,8 @@ mod Ids
 mod Indexed
 mod Ordered
 mod Parts
+mod Distinct
+mod FirstPlaces
 mod Places
 pub mod Indexing
 mod Covered

@@ -1,5 +1,5 @@
 -- Places that are sorted without their documents give these again.
-use Rattle.std.proofs.Common.{◌≡◌, ℕ, Bool, List, [], ◌∷◌, ◌++◌, Option, Some, None, Ordering, append-nil, drop, map, reverse, take, zero, suc, refl, subst, sym, ap, true, false, ◌∙◌, inl, inr}
+use Rattle.std.proofs.Common.{◌≡◌, ℕ, ◌+◌, Bool, List, [], ◌∷◌, ◌++◌, Option, Some, None, Ordering, append-nil, drop, map, reverse, take, zero, suc, refl, subst, sym, ap, true, false, ◌∙◌, inl, inr, arith}
 use Rattle.std.specs.BTreeSet.{insert_key}
 use Rattle.std.specs.FinMap.{put}
 use Rattle.std.specs.FinMap.Entries.{by_order}
@@ -8,7 +8,7 @@ use Rattle.std.specs.Prelude.{is_some}
 use Rattle.std.specs.Ordering.{match_ordering}
 use Rattle.std.specs.declared.cmp.Ordering.TheVariants.{Less, Equal, Greater}
 use Rattle.couch_json.specs.Value.{Items, Value, array}
-use Rattle.std.proofs.lemmas.List.{reverse-reverse}
+use Rattle.std.proofs.lemmas.List.{drop-take, reverse-reverse, take-map, take-take}
 use Rattle.store.proofs.Directed.{in_directed, map_directed}
 use Rattle.store.proofs.Listings.{In}
 use Rattle.store.specs.Database.{Database}
@@ -16,7 +16,10 @@ use Rattle.store.specs.Indexes.{IndexPlace, field_values, place_order, put_at_va
 use Rattle.store.specs.Pages.{in_direction}
 use Rattle.find.proofs.ByChunk.{none_left}
 use Rattle.find.proofs.Covered.{from_all}
+use Rattle.find.proofs.Distinct.{distinct_candidates}
+use Rattle.find.proofs.FirstPlaces.{first_directed, kept_places}
 use Rattle.find.specs.inner.Candidates.{put_candidates, put_place, put_place_at, put_places}
+use Rattle.find.specs.inner.Kept.{distinct, keep_place, keep_places, kept_of}
 use Rattle.find.specs.inner.Matching.{completion, match_in, matches_at}
 use Rattle.find.specs.declared.part.Part.{Part}
 use Rattle.find.specs.declared.query.Query.{Query}
@@ -50,16 +53,15 @@ places fields selector d [] es = refl
 places fields selector d (id ∷ ids) es =
     ap (put_places fields selector d ids) (place fields id (match_in selector d id) es) ∙ places fields selector d ids (put_in_index fields id (match_in selector d id) es)
 
-places_append : (fields : List (List ℕ)) (selector : Value) (d : Database) (ids more : List (List ℕ)) (among : List IndexPlace)
-    → put_places fields selector d (ids ++ more) among ≡ put_places fields selector d more (put_places fields selector d ids among)
-places_append fields selector d [] more among = refl
-places_append fields selector d (id ∷ ids) more among = places_append fields selector d ids more (put_place fields id (match_in selector d id) among)
+kept-append : (fields : List (List ℕ)) (query : Query) (d : Database) (ids more : List (List ℕ)) (kept : List IndexPlace) → keep_places fields query d (ids ++ more) kept ≡ keep_places fields query d more (keep_places fields query d ids kept)
+kept-append fields query d [] more kept = refl
+kept-append fields query d (id ∷ ids) more kept = kept-append fields query d ids more (keep_place fields query id (match_in query.selector d id) kept)
 
 -- the places of a chunk were put in
-pub chunk_sorted : (fields : List (List ℕ)) (selector : Value) (d : Database) (all ids left : List (List ℕ)) (before after : List IndexPlace) → all ≡ ids ++ left
-    → after ≡ put_places fields selector d ids before → put_places fields selector d left after ≡ put_places fields selector d all before
-chunk_sorted fields selector d all ids left before after is put =
-    ap (put_places fields selector d left) put ∙ sym (places_append fields selector d ids left before) ∙ ap (λ xs. put_places fields selector d xs before) (sym is)
+pub chunk_sorted : (fields : List (List ℕ)) (query : Query) (d : Database) (all ids left : List (List ℕ)) (before after : List IndexPlace) → all ≡ ids ++ left
+    → after ≡ keep_places fields query d ids before → keep_places fields query d left after ≡ keep_places fields query d all before
+chunk_sorted fields query d all ids left before after is put =
+    ap (keep_places fields query d left) put ∙ sym (kept-append fields query d ids left before) ∙ ap (λ xs. keep_places fields query d xs before) (sym is)
 
 -- ---- their documents
 
@@ -85,24 +87,49 @@ candidates_match : (fields : List (List ℕ)) (selector : Value) (d : Database) 
 candidates_match fields selector d ids x i =
     elim (from_all fields selector d ids [] x i) as (λ _. match_in selector d x.0.id ≡ Some x.1) [ inl h ↦ h.0 | inr j ↦ absurd j ]
 
-read_again : (fields : List (List ℕ)) (selector : Value) (descending : Bool) (d : Database) (ids : List (List ℕ)) (n : ℕ)
-    → matches_at selector d (drop n (in_direction descending (map (λ p. p.id) (put_places fields selector d ids [])))) ≡ drop n (in_direction descending (map (λ e. e.1) (put_candidates fields selector d ids [])))
-read_again fields selector descending d ids n =
-    let es = put_candidates fields selector d ids [] in
-    ap (λ ps. matches_at selector d (drop n (in_direction descending (map (λ p. p.id) ps)))) (places fields selector d ids [])
-    ∙ ap (λ xs. matches_at selector d (drop n (in_direction descending xs))) (ids-places es)
-    ∙ ap (λ xs. matches_at selector d (drop n xs)) (sym (map_directed (λ (e : IndexPlace × Value). e.0.id) descending es))
-    ∙ again selector d n (in_direction descending es) (matches_directed selector d descending es (candidates_match fields selector d ids))
-    ∙ ap (drop n) (map_directed (λ (e : IndexPlace × Value). e.1) descending es)
+from_take : {X : Type 0} (n : ℕ) (xs : List X) (x : X) → In (take n xs) x → In xs x
+from_take zero xs x i = absurd i
+from_take (suc n) [] x i = absurd i
+from_take (suc n) (y ∷ xs) x (inl i) = inl i
+from_take (suc n) (y ∷ xs) x (inr i) = inr (from_take n xs x i)
 
--- the documents at the sorted places behind those that are left out, put into the part in a direction, are the candidates in it
-pub part_read : (query : Query) (d : Database) (ids sorted wanted : List (List ℕ)) (fresh after : Part) → sorted ≡ in_direction query.descending (map (λ p. p.id) (put_places query.sort query.selector d ids []))
+-- the ids of the places that are kept, in the direction, are those of the first candidates in it
+ids_kept : (query : Query) (d : Database) (ids : List (List ℕ))
+    → in_direction query.descending (map (λ p. p.id) (keep_places (distinct query.sort) query d ids []))
+    ≡ map (λ e. e.0.id) (take (query.skip + query.limit) (in_direction query.descending (put_candidates (distinct query.sort) query.selector d ids [])))
+ids_kept query d ids =
+    let es = put_candidates (distinct query.sort) query.selector d ids [] in
+    let n = query.skip + query.limit in
+    ap (λ ps. in_direction query.descending (map (λ p. p.id) ps)) (kept_places (distinct query.sort) query d ids ∙ ap (kept_of query) (places (distinct query.sort) query.selector d ids []))
+    ∙ sym (map_directed (λ (p : IndexPlace). p.id) query.descending (kept_of query (places_of es)))
+    ∙ ap (map (λ p. p.id)) (first_directed query.descending n (places_of es) ∙ ap (take n) (sym (map_directed (λ (e : IndexPlace × Value). e.0) query.descending es))
+    ∙ take-map (λ (e : IndexPlace × Value). e.0) n (in_direction query.descending es))
+    ∙ ids-places (take n (in_direction query.descending es))
+
+read_again : (query : Query) (d : Database) (ids : List (List ℕ))
+    → matches_at query.selector d (drop query.skip (in_direction query.descending (map (λ p. p.id) (keep_places (distinct query.sort) query d ids []))))
+    ≡ drop query.skip (take (query.skip + query.limit) (in_direction query.descending (map (λ e. e.1) (put_candidates query.sort query.selector d ids []))))
+read_again query d ids =
+    let es = put_candidates (distinct query.sort) query.selector d ids [] in
+    let n = query.skip + query.limit in
+    let turned = in_direction query.descending es in
+    ap (λ xs. matches_at query.selector d (drop query.skip xs)) (ids_kept query d ids)
+    ∙ again query.selector d query.skip (take n turned)
+    (λ x i. matches_directed query.selector d query.descending es (candidates_match (distinct query.sort) query.selector d ids) x (from_take n turned x i))
+    ∙ ap (drop query.skip) (sym (take-map (λ (e : IndexPlace × Value). e.1) n turned) ∙ ap (take n) (map_directed (λ (e : IndexPlace × Value). e.1) query.descending es
+    ∙ ap (in_direction query.descending) (distinct_candidates query.sort query.selector d ids)))
+
+-- the documents at the places that are kept, behind those that are left out, put into the part, are the part of the candidates in the
+-- direction
+pub part_read : (query : Query) (d : Database) (ids sorted wanted : List (List ℕ)) (fresh after : Part) → sorted ≡ in_direction query.descending (map (λ p. p.id) (keep_places (distinct query.sort) query d ids []))
     → wanted ≡ drop query.skip sorted → ((rest : List Value) → completion fresh rest ≡ take query.limit rest) → ((rest : List Value) → completion after rest ≡ completion fresh (matches_at query.selector d wanted ++ rest))
     → take query.limit (drop query.skip (in_direction query.descending (map (λ e. e.1) (put_candidates query.sort query.selector d ids [])))) ≡ after.documents
 part_read query d ids sorted wanted fresh after is left begun put =
-    let matches : matches_at query.selector d wanted ++ [] ≡ drop query.skip (in_direction query.descending (map (λ e. e.1) (put_candidates query.sort query.selector d ids []))) =
-    append-nil (matches_at query.selector d wanted) ∙ ap (matches_at query.selector d) (left ∙ ap (drop query.skip) is) ∙ read_again query.sort query.selector query.descending d ids query.skip in
-    ap (take query.limit) (sym matches) ∙ sym (begun (matches_at query.selector d wanted ++ [])) ∙ sym (put []) ∙ none_left after
+    let all = in_direction query.descending (map (λ e. e.1) (put_candidates query.sort query.selector d ids [])) in
+    let matches : matches_at query.selector d wanted ++ [] ≡ take query.limit (drop query.skip all) =
+    append-nil (matches_at query.selector d wanted) ∙ ap (matches_at query.selector d) (left ∙ ap (drop query.skip) is) ∙ read_again query d ids ∙ drop-take query.skip query.limit all in
+    sym (take-take query.limit query.limit (drop query.skip all) (omega arith))
+    ∙ ap (take query.limit) (sym matches) ∙ sym (begun (matches_at query.selector d wanted ++ [])) ∙ sym (put []) ∙ none_left after
 
 pub there_is : {X : Type 0} (o : Option X) → is_some o ≡ true → (x : X) × (o ≡ Some x)
 there_is None h = absurd cc

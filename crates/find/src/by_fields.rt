@@ -1,7 +1,8 @@
-//! Finds over documents in any order: the places of all that match are sorted first. Then the documents of the
-//! part that is asked for are read again, so that no others are held. Those that it leaves out are not.
+//! Finds over documents in any order: the places of those that match are sorted first, and of these
+//! no more are kept than the part that is asked for reaches. Then the documents of the part are read
+//! again, so that no others are held. Those that it leaves out are not.
 
-ghost use Rattle.std.specs.Prelude.{◌≡◌, ◌<◌, [], IfOk, IfErr, None, OnOk, Some, drop, false, map as each, is_some, option_map, take, true};
+ghost use Rattle.std.specs.Prelude.{◌≡◌, ◌+◌, ◌<◌, ℕ, [], IfOk, IfErr, None, OnOk, Some, drop, false, length, map as each, is_some, nat_lt, option_map, take, true};
 ghost use Rattle.std.specs.FinMap as map;
 ghost use Rattle.couch_json.specs.Value.{array};
 ghost use Rattle.couch_json.specs.View.{items_view, view};
@@ -9,7 +10,8 @@ ghost use Rattle.store.specs.Calls.{OnlyReads};
 ghost use Rattle.store.specs.Database.{Database};
 ghost use Rattle.store.specs.Pages.{in_direction};
 ghost use Rattle.read.specs.Answers.{Stops};
-ghost use Rattle.find.specs.inner.Candidates.{put_candidates, put_place, put_places};
+ghost use Rattle.find.specs.inner.Candidates.{put_candidates};
+ghost use Rattle.find.specs.inner.Kept.{first_ones, keep_place, keep_places, kept_of};
 ghost use Rattle.find.specs.inner.Matching.{match_in};
 ghost use Rattle.find.specs.inner.Sources.{AreCandidates, IsCandidate, candidate_at, chunks_left, ids_in, ids_left, ids_of};
 
@@ -19,8 +21,9 @@ use crate::in_order::put_matches;
 use crate::matching::read_match;
 use crate::part::Part;
 use crate::query::Query;
+use crate::sorting::Sorting;
 use crate::source::Source;
-use couch_json::{ArrayText, FieldPath, Got, Json};
+use couch_json::{ArrayText, Got, Json};
 use read::ReadFault;
 use std::alloc::Global;
 use std::collections::BTreeSet;
@@ -43,7 +46,8 @@ pub(crate) fn find_sorted<S: Store>(
     ensures stops { IfErr result (Stops S.Store store.old store.new (map.get (S.contents store.old) db.now ≡ None)) }
     ensures reads { OnlyReads S.Store store.old store.new }
 {
-    let places = sort_matches(alloc, store, db, query, source)?;
+    let sorting = Sorting::of(alloc, query)?;
+    let places = sort_matches(alloc, store, db, &sorting, source)?;
     let candidates = list_candidates(alloc, places, query.descending)?;
     let wanted = leave_out(&candidates, query.skip);
     let mut part = Part::new(alloc, 0, query.limit)?;
@@ -51,24 +55,25 @@ pub(crate) fn find_sorted<S: Store>(
     Ok(part.documents)
 }
 
-/// Sorts the places of the documents of a source that match.
+/// Sorts the places of the documents of a source that match, as many as the part of the query
+/// reaches.
 fn sort_matches<S: Store>(
     alloc: Global,
     store: &mut S,
     db: &DbName,
-    query: &Query,
+    sorting: &Sorting<'_>,
     source: &Source,
 ) -> Result<BTreeSet<KeyRow>, ReadFault>
     ensures there { S.is_honest store.new → IfOk result (λ _. is_some (map.get (S.contents store.old) db.now) ≡ true) }
     ensures ok { S.is_honest store.new → IfOk result (λ places. (d : Database) → map.get (S.contents store.old) db.now ≡ Some d
-        → places.keys ≡ put_places query.now.sort query.now.selector d (ids_in source.now d) []) }
+        → places.keys ≡ keep_places sorting.now.fields.items sorting.now.query.now d (ids_in source.now d) []) }
     ensures stops { IfErr result (Stops S.Store store.old store.new (map.get (S.contents store.old) db.now ≡ None)) }
     ensures reads { OnlyReads S.Store store.old store.new }
 {
     let mut places = BTreeSet::new(alloc);
     let mut chunks = Chunks::new(1_000);
     while !chunks.is_done {
-        sort_chunk(alloc, store, db, query, source, &mut chunks, &mut places)?;
+        sort_chunk(alloc, store, db, sorting, source, &mut chunks, &mut places)?;
     }
     Ok(places)
 }
@@ -78,7 +83,7 @@ fn sort_chunk<S: Store>(
     alloc: Global,
     store: &mut S,
     db: &DbName,
-    query: &Query,
+    sorting: &Sorting<'_>,
     source: &Source,
     chunks: &mut Chunks,
     places: &mut BTreeSet<KeyRow>,
@@ -86,15 +91,14 @@ fn sort_chunk<S: Store>(
     requires { chunks.old.is_done ≡ false }
     ensures there { S.is_honest store.new → OnOk result (is_some (map.get (S.contents store.old) db.now) ≡ true) }
     ensures ok { S.is_honest store.new → OnOk result ((d : Database) → map.get (S.contents store.old) db.now ≡ Some d
-        → put_places query.now.sort query.now.selector d
-        (ids_left source.now chunks.new d) places.new.keys ≡ put_places query.now.sort query.now.selector d
-        (ids_left source.now chunks.old d) places.old.keys) }
+        → keep_places sorting.now.fields.items sorting.now.query.now d (ids_left source.now chunks.new d) places.new.keys
+        ≡ keep_places sorting.now.fields.items sorting.now.query.now d (ids_left source.now chunks.old d) places.old.keys) }
     ensures onward { OnOk result (chunks_left chunks.new < chunks_left chunks.old) }
     ensures stops { IfErr result (Stops S.Store store.old store.new (map.get (S.contents store.old) db.now ≡ None)) }
     ensures reads { OnlyReads S.Store store.old store.new }
 {
     let candidates = take_chunk(alloc, store, db, source, chunks)?;
-    sort_candidates(alloc, store, db, &candidates, query, places)?;
+    sort_candidates(alloc, store, db, &candidates, sorting, places)?;
     Ok(())
 }
 
@@ -104,17 +108,17 @@ fn sort_candidates<S: Store>(
     store: &mut S,
     db: &DbName,
     candidates: &[Candidate],
-    query: &Query,
+    sorting: &Sorting<'_>,
     places: &mut BTreeSet<KeyRow>,
 ) -> Result<(), ReadFault>
     requires { S.is_honest store.old → (d : Database) → map.get (S.contents store.old) db.now ≡ Some d → AreCandidates d candidates.now }
     ensures ok { S.is_honest store.new → OnOk result ((d : Database) → map.get (S.contents store.old) db.now ≡ Some d
-        → places.new.keys ≡ put_places query.now.sort query.now.selector d (ids_of candidates.now) places.old.keys) }
+        → places.new.keys ≡ keep_places sorting.now.fields.items sorting.now.query.now d (ids_of candidates.now) places.old.keys) }
     ensures stops { IfErr result (Stops S.Store store.old store.new (map.get (S.contents store.old) db.now ≡ None)) }
     ensures reads { OnlyReads S.Store store.old store.new }
 {
     for candidate in candidates {
-        put_match(alloc, store, db, candidate, query, places)?;
+        put_match(alloc, store, db, candidate, sorting, places)?;
     }
     Ok(())
 }
@@ -125,42 +129,68 @@ fn put_match<S: Store>(
     store: &mut S,
     db: &DbName,
     candidate: &Candidate,
-    query: &Query,
+    sorting: &Sorting<'_>,
     places: &mut BTreeSet<KeyRow>,
 ) -> Result<(), ReadFault>
     requires { S.is_honest store.old → (d : Database) → map.get (S.contents store.old) db.now ≡ Some d → IsCandidate d candidate.now }
     ensures ok { S.is_honest store.new → OnOk result ((d : Database) → map.get (S.contents store.old) db.now ≡ Some d
-        → places.new.keys ≡ put_place query.now.sort candidate.now.id (match_in query.now.selector d candidate.now.id) places.old.keys) }
+        → places.new.keys ≡ keep_place sorting.now.fields.items sorting.now.query.now candidate.now.id
+        (match_in sorting.now.query.now.selector d candidate.now.id) places.old.keys) }
     ensures stops { IfErr result (Stops S.Store store.old store.new (map.get (S.contents store.old) db.now ≡ None)) }
     ensures reads { OnlyReads S.Store store.old store.new }
 {
-    if let Some(document) = read_match(alloc, store, db, candidate, &query.selector)? {
-        put_place(
-            alloc,
-            query.sort.as_slice(),
-            &candidate.id,
-            &document,
-            places,
-        )?;
+    if let Some(document) = read_match(alloc, store, db, candidate, &sorting.query.selector)? {
+        put_place(alloc, sorting, &candidate.id, &document, places)?;
     }
     Ok(())
 }
 
-/// Puts in the place of a document, if it has all the fields.
+/// Puts in the place of a document, if it has all the fields, and lets those go that the part of the
+/// query doesn't reach.
 fn put_place(
     alloc: Global,
-    fields: &[FieldPath],
+    sorting: &Sorting<'_>,
     id: &DocId,
     document: &Json,
     places: &mut BTreeSet<KeyRow>,
 ) -> Got<()>
-    ensures { OnOk result (places.new.keys ≡ put_place fields.now id.now (Some (view document.now)) places.old.keys) }
+    ensures { OnOk result (places.new.keys ≡ keep_place sorting.now.fields.items sorting.now.query.now id.now (Some (view document.now)) places.old.keys) }
 {
-    let Some(values) = values_at(alloc, fields, document)? else {
+    let Some(values) = values_at(alloc, &sorting.fields, document)? else {
         return Ok(());
     };
     places.insert(KeyRow::new(make_key(values), id.copy(alloc)?))?;
+    drop_beyond(places, sorting.query);
     Ok(())
+}
+
+/// Drops the last places in the direction of the query, so that no more are left than its part
+/// reaches.
+fn drop_beyond(places: &mut BTreeSet<KeyRow>, query: &Query)
+    ensures { places.new.keys ≡ kept_of query.now places.old.keys }
+{
+    'beyond: while has_beyond(places.len(), query) {
+        drop_last(places, query.descending);
+    }
+}
+
+/// Tells whether so many places are more than the part of the query reaches.
+fn has_beyond(count: usize, query: &Query) -> bool
+    ensures { result ≡ nat_lt (query.now.skip + query.now.limit) count }
+{
+    (count as u64).saturating_sub(query.skip) > query.limit
+}
+
+/// Drops the last place in this direction.
+fn drop_last(places: &mut BTreeSet<KeyRow>, descending: bool)
+    ensures kept { (n : ℕ) → n < length places.old.keys → first_ones descending n places.new.keys ≡ first_ones descending n places.old.keys }
+    ensures fewer { 0 < length places.old.keys → length places.new.keys < length places.old.keys }
+{
+    if descending {
+        drop(places.pop_first());
+    } else {
+        drop(places.pop_last());
+    }
 }
 
 /// Makes the key of these values.

@@ -30,6 +30,7 @@ mod reached;
 mod scan;
 mod sort;
 mod sort_fields;
+mod sorting;
 mod source;
 
 pub use documents::find;

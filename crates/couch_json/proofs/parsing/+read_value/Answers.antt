@@ -4,7 +4,7 @@ use Rattle.json.specs.Json.{after_end_array, read_key, items, value}
 use Rattle.json.specs.Reads.{token_of}
 use Rattle.json.proofs.Grammar.{value_is}
 use Rattle.serde_json.specs.Read.{of_json, of_items, converted}
-use Rattle.couch_json.specs.inner.Parsing.{IsRead}
+use Rattle.couch_json.specs.inner.Parsing.{AreItemsRead, IsRead}
 use Rattle.couch_json.specs.Value.{whole, text, array, object}
 use Rattle.couch_json.specs.View.{view, items_view, members_view}
 use Rattle.couch_json.specs.declared.value.Json.{Null, Truth, Whole, Text, Array, Object, the_lemmas}
@@ -35,7 +35,8 @@ pub read_items-returns-clause-read : goal.read_items-returns-clause-read
 read_items-returns-clause-read t c =
     let l = c.items in
     let ended : after_end_array l.reader ≡ Some c.take_end_array.new.self = search rules in
-    all_items c.args.depth c.args.reader.now l.reader c.take_end_array.new.self _ l.invariant ended
+    subst (λ found. AreItemsRead c.args.depth c.args.reader.now found c.take_end_array.new.self) (sym c.fit_items.ensures)
+    (all_items c.args.depth c.args.reader.now l.reader c.take_end_array.new.self _ l.invariant ended)
 
 pub read_members-members-init : goal.read_members-members-init
 read_members-members-init t c = members_begun c.args.depth c.args.reader.now _ c.new-found.ensures.empty

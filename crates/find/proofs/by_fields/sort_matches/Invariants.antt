@@ -3,7 +3,7 @@ use Rattle.std.specs.FinMap as finite
 use Rattle.std.specs.Prelude.{is_some}
 use Rattle.store.specs.Calls.{OnlyReads}
 use Rattle.store.specs.Database.{Database}
-use Rattle.find.specs.inner.Candidates.{put_places}
+use Rattle.find.specs.inner.Kept.{keep_places}
 use Rattle.find.specs.inner.Sources.{chunks_left, ids_in, ids_left}
 use Rattle.find.proofs.by_fields.sort_matches.Given as goal
 
@@ -11,7 +11,7 @@ use Rattle.find.proofs.by_fields.sort_matches.Given as goal
 abbrev pub invariant-loop-chunks : goal.invariant-loop-chunks
 invariant-loop-chunks g l = record {
   sorted : g.S.Store.is_honest l.store → (d : Database) → finite.get (g.S.Store.contents l.initial.store) l.db ≡ Some d
-      → put_places l.query.sort l.query.selector d (ids_left l.source l.chunks d) l.places.keys ≡ put_places l.query.sort l.query.selector d (ids_in l.source d) [];
+      → keep_places l.sorting.fields.items l.sorting.query.now d (ids_left l.source l.chunks d) l.places.keys ≡ keep_places l.sorting.fields.items l.sorting.query.now d (ids_in l.source d) [];
   there : l.chunks.is_done ≡ true → g.S.Store.is_honest l.store → is_some (finite.get (g.S.Store.contents l.initial.store) l.db) ≡ true;
   reads : OnlyReads g.S.Store l.initial.store l.store;
 }
