@@ -1,5 +1,5 @@
 -- A sort by fields, of which one may stand there twice, is that by each of them once.
-use Rattle.std.proofs.Common.{◌≡◌, ◌&&◌, ◌||◌, Bool, true, false, cond, bytes_eq, ℕ, List, [], ◌∷◌, ◌++◌, Ordering, Option, Some, None, map, option_map, append-nil, append_assoc, refl, sym, ap, ap₂, subst, ◌∙◌, inl, inr}
+use Rattle.std.proofs.Common.{◌≡◌, ◌≤◌, ◌<◌, ◌&&◌, ◌||◌, arith, length, Bool, true, false, cond, bytes_eq, ℕ, zero, suc, List, [], ◌∷◌, ◌++◌, take, Ordering, Option, Some, None, map, option_map, append-nil, append_assoc, refl, sym, ap, ap₂, subst, ◌∙◌, inl, inr}
 use Rattle.std.proofs.lemmas.Slice.Eq.{bytes_eq-Decides}
 use Rattle.std.specs.FinMap.{put}
 use Rattle.std.specs.FinMap.Entries.{by_order}
@@ -15,8 +15,19 @@ use Rattle.store.specs.Database.{Database}
 use Rattle.store.specs.Indexes.{IndexPlace, field_values, place_order, put_at_values, put_in_index, values_with}
 use Rattle.find.proofs.Covered.{exact, from_one}
 use Rattle.find.specs.inner.Candidates.{put_candidates}
-use Rattle.find.specs.inner.Kept.{distinct, distinct_with, is_among}
+use Rattle.find.specs.inner.Kept.{distinct, distinct_with, is_among, most_compared}
 use Rattle.find.specs.inner.Matching.{match_in}
+
+-- a first part that is as long as it may be
+pub same_take : {A : Type 0} (xs : List A) (m n : ℕ) → m ≤ n → (m < n → length xs ≤ m) → take m xs ≡ take n xs
+same_take [] zero zero le all = refl
+same_take [] zero (suc n) le all = refl
+same_take [] (suc m) zero le all = refl
+same_take [] (suc m) (suc n) le all = refl
+same_take (x ∷ xs) zero zero le all = refl
+same_take (x ∷ xs) zero (suc n) le all = absurd (omega (arith, all (omega arith)))
+same_take (x ∷ xs) (suc m) zero le all = absurd (omega (arith, le))
+same_take (x ∷ xs) (suc m) (suc n) le all = ap (λ ys. x ∷ ys) (same_take xs m n (omega (arith, le)) (λ less. omega (arith, all (omega (arith, less)))))
 
 -- ---- what goes over fields, and passes over one that came before
 
@@ -37,12 +48,21 @@ module _ {X : Type 0} (step : List ℕ → X → X) (end : X) where
       by later true is e = subst (λ k. step k (total (gs ++ f ∷ fs)) ≡ step k (total (gs ++ fs))) ((bytes_eq-Decides f g).0 is) (absorbs f gs fs)
       by later false is e = ap (step g) (later e)
 
+  among_first : (n : ℕ) (f : List ℕ) (kept : List (List ℕ)) → is_among f (take n kept) ≡ true → is_among f kept ≡ true
+  among_first zero f kept h = absurd cc
+  among_first (suc n) f [] h = absurd cc
+  among_first (suc n) f (g ∷ gs) h = by (among_first n f gs) (bytes_eq f g) h
+    where
+      by : (is_among f (take n gs) ≡ true → is_among f gs ≡ true) → (b : Bool) → b || is_among f (take n gs) ≡ true → b || is_among f gs ≡ true
+      by later true e = refl
+      by later false e = later e
+
   distinct_total : Absorbs → (kept fs : List (List ℕ)) → total (distinct_with kept fs) ≡ total (kept ++ fs)
   distinct_total absorbs kept [] = ap total (sym (append-nil kept))
-  distinct_total absorbs kept (f ∷ fs) = by (λ ks. distinct_total absorbs ks fs) (is_among f kept) refl
+  distinct_total absorbs kept (f ∷ fs) = by (λ ks. distinct_total absorbs ks fs) (is_among f (take most_compared kept)) refl
     where
-      by : ((ks : List (List ℕ)) → total (distinct_with ks fs) ≡ total (ks ++ fs)) → (b : Bool) → is_among f kept ≡ b → total (distinct_with (cond b kept (kept ++ f ∷ [])) fs) ≡ total (kept ++ f ∷ fs)
-      by later true is = later kept ∙ sym (repeated absorbs f kept fs is)
+      by : ((ks : List (List ℕ)) → total (distinct_with ks fs) ≡ total (ks ++ fs)) → (b : Bool) → is_among f (take most_compared kept) ≡ b → total (distinct_with (cond b kept (kept ++ f ∷ [])) fs) ≡ total (kept ++ f ∷ fs)
+      by later true is = later kept ∙ sym (repeated absorbs f kept fs (among_first most_compared f kept is))
       by later false is = later (kept ++ f ∷ []) ∙ ap total (append_assoc kept (f ∷ []) fs)
 
 -- ---- how two documents stand to each other

@@ -1,7 +1,7 @@
 //! What a find sorts by.
 
-ghost use Rattle.std.specs.Prelude.{◌≡◌, IfOk, OnOk};
-ghost use Rattle.find.specs.inner.Kept.{distinct, put_distinct};
+ghost use Rattle.std.specs.Prelude.{◌≡◌, IfOk, OnOk, take};
+ghost use Rattle.find.specs.inner.Kept.{distinct, most_compared, put_distinct};
 
 use crate::query::Query;
 use crate::ranges::is_among;
@@ -12,7 +12,8 @@ use std::alloc::Global;
 pub(crate) struct Sorting<'a> {
     /// The query that asks for it.
     pub(crate) query: &'a Query,
-    /// The fields of its sort, each of them once: where one stands there again it orders nothing.
+    /// The fields of its sort, the first 64 that differ once each: where one stands there again it
+    /// orders nothing.
     pub(crate) fields: Vec<FieldPath>,
 }
 
@@ -37,7 +38,10 @@ impl<'a> Sorting<'a> {
     }
 }
 
-/// Copies these fields, each of them once.
+/// How many fields a field is compared with at most.
+const MOST_COMPARED: usize = 64;
+
+/// Copies these fields, the first 64 that differ once each.
 fn copy_distinct(alloc: Global, fields: &[FieldPath]) -> Got<Vec<FieldPath>>
     ensures { IfOk result (λ copies. copies.items ≡ distinct fields.now) }
 {
@@ -48,15 +52,22 @@ fn copy_distinct(alloc: Global, fields: &[FieldPath]) -> Got<Vec<FieldPath>>
     Ok(copies)
 }
 
-/// Puts a copy of the field behind the others, unless it is one of them.
+/// Puts a copy of the field behind the others, unless it is one of the first of them.
 fn put_distinct(alloc: Global, field: &FieldPath, fields: &mut Vec<FieldPath>) -> Got<()>
     ensures { OnOk result (fields.new.items ≡ put_distinct field.now fields.old.items) }
 {
-    if is_among(field, fields) {
+    if is_among(field, first_fields(fields)) {
         return Ok(());
     }
     fields.push(copy_field(alloc, field)?)?;
     Ok(())
+}
+
+/// Returns the fields that others are compared with.
+fn first_fields(fields: &[FieldPath]) -> &[FieldPath]
+    ensures { result.now ≡ take most_compared fields.now }
+{
+    &fields[..fields.len().min(MOST_COMPARED)]
 }
 
 fn copy_field(alloc: Global, field: &FieldPath) -> Got<FieldPath>

@@ -22,15 +22,19 @@ kept_of query places = first_ones query.descending (query.skip + query.limit) pl
 abbrev pub is_among : List ℕ → List (List ℕ) → Bool
 is_among field fields = list_any (λ f. bytes_eq field f) fields
 
--- the field behind these, unless it is one of them
+-- a field is compared with so many that came before at most
+abbrev pub most_compared : ℕ
+most_compared = 64
+
+-- the field behind these, unless it is one of the first of them
 abbrev pub put_distinct : List ℕ → List (List ℕ) → List (List ℕ)
-put_distinct field fields = if is_among field fields then fields else fields ++ field ∷ []
+put_distinct field fields = if is_among field (take most_compared fields) then fields else fields ++ field ∷ []
 
 abbrev pub distinct_with : List (List ℕ) → List (List ℕ) → List (List ℕ)
 distinct_with kept [] = kept
 distinct_with kept (field ∷ fields) = distinct_with (put_distinct field kept) fields
 
--- these fields, each of them once, at its first place
+-- these fields, the first 64 that differ once each, at their first places
 abbrev pub distinct : List (List ℕ) → List (List ℕ)
 distinct fields = distinct_with [] fields
 
