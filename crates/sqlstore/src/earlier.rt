@@ -7,10 +7,14 @@ ghost use Rattle.sqlstore.specs.Standing.{AreKnown, IsKnown};
 ghost use Rattle.sqlstore.specs.declared.known_database.KnownDatabase.{KnownDatabase};
 
 use crate::known_database::KnownDatabase;
+use crate::weight::takes_less;
 use store::DbName;
 
 /// How many databases are known beside the latest one.
 const MOST: usize = 63;
+
+/// So many bytes the security object of each of them may take: all together take at most 16 MiB.
+const SHARE: usize = 1 << 18;
 
 /// Takes out what is known of the database of this name.
 pub(crate) fn take_named(earlier: &mut Vec<KnownDatabase>, name: &DbName) -> Option<KnownDatabase>
@@ -42,9 +46,20 @@ fn is_of(known: &KnownDatabase, name: &DbName) -> bool
     known.name.as_str() == name.as_str()
 }
 
-/// Puts in what is known of a database, without its indexes and its design documents. The one that was asked for last longest ago is
-/// forgotten where there are too many; where memory runs out this one is.
+/// Puts in what is known of a database, without its indexes and its design documents. Where its
+/// security object takes more than its share of memory it is forgotten, and is read again.
 pub(crate) fn keep_known(earlier: &mut Vec<KnownDatabase>, known: KnownDatabase)
+    ensures { (trees : Trees) → AreKnown trees earlier.old.items → IsKnown trees (Some known) → AreKnown trees earlier.new.items }
+{
+    if takes_less(&known.found.security, SHARE) {
+        put_known(earlier, known);
+    }
+}
+
+/// Puts in what is known of a database, without its indexes and its design documents. The one that
+/// was asked for last longest ago is forgotten where there are too many; where memory runs out this
+/// one is.
+fn put_known(earlier: &mut Vec<KnownDatabase>, known: KnownDatabase)
     ensures { (trees : Trees) → AreKnown trees earlier.old.items → IsKnown trees (Some known) → AreKnown trees earlier.new.items }
 {
     if earlier.len() >= MOST {

@@ -29,6 +29,7 @@ mod open_fault;
 mod opening;
 mod seen;
 mod sql_store;
+mod weight;
 
 pub use in_memory::MemoryStore;
 pub use open_fault::OpenFault;

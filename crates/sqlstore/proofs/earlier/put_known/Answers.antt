@@ -3,8 +3,8 @@ use Rattle.std.specs.Result.{is_ok}
 use Rattle.sqlstore.proofs.Common.{KnownDatabase}
 use Rattle.sqlstore.proofs.EarlierKnown.{pushed_if, removed_known}
 use Rattle.sqlstore.specs.Standing.{AreKnown}
-use Rattle.sqlstore.proofs.earlier.keep_known.Goals.{then-len-ge-MOST, else-len-ge-MOST}
-use Rattle.sqlstore.proofs.earlier.keep_known.Goals as goal
+use Rattle.sqlstore.proofs.earlier.put_known.Goals.{then-len-ge-MOST, else-len-ge-MOST}
+use Rattle.sqlstore.proofs.earlier.put_known.Goals as goal
 
 pub returns : goal.returns
 returns c trees all known =
