@@ -210,15 +210,15 @@ def sending_ahead(port: int, path: str, clients: int) -> Iterator[None]:
         for _ in range(clients):
             made = open_ones.enter_context(connected(port))
             made.sendall(request("GET", path) * 100)
-            selector.register(made, selectors.EVENT_READ)
+            selector.register(made, selectors.EVENT_READ, made)
         stopped = threading.Event()
 
         def take() -> None:
             while not stopped.is_set():
                 for key, _ in selector.select(0.1):
                     with contextlib.suppress(OSError):
-                        if not key.fileobj.recv(1_048_576):
-                            selector.unregister(key.fileobj)
+                        if not key.data.recv(1_048_576):
+                            selector.unregister(key.data)
 
         taking = start_all([take])
         yield
