@@ -7,3 +7,8 @@ pub mod OneMember
 pub mod Searches
 pub mod Marks
 pub mod FieldTables
+pub mod Decided
+pub mod Sets
+pub mod Places
+pub mod ListTruths
+pub mod Tests

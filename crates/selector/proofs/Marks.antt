@@ -60,7 +60,7 @@ or_false : (b : Bool) → b || false ≡ b
 or_false true = refl
 or_false false = refl
 
-among-push : (v : Value) (done : List Json) (x : Json) → is_element v (items_view (done ++ x ∷ [])) ≡ is_element v (items_view done) || equals v x
+pub among-push : (v : Value) (done : List Json) (x : Json) → is_element v (items_view (done ++ x ∷ [])) ≡ is_element v (items_view done) || equals v x
 among-push v [] x = or_false (equals v x)
 among-push v (d ∷ done) x = ap (λ b. equals v d || b) (among-push v done x) ∙ or_assoc (equals v d) (is_element v (items_view done)) (equals v x)
 

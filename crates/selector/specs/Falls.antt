@@ -25,7 +25,7 @@ most_le-members_depth (condition.NotIn m ∷ cs) = omega (arith, most_le-members
 most_le-members_depth (condition.All m ∷ cs) = omega (arith, most_le-members_depth cs)
 most_le-members_depth (condition.SameAs p ∷ cs) = omega (arith, most_le-members_depth cs)
 most_le-members_depth (condition.Selector o s ∷ cs) = omega (arith, most_le-members_depth cs)
-most_le-members_depth (condition.List o ss ∷ cs) = omega (arith, most_le-members_depth cs, most_le-items_depth ss.items)
+most_le-members_depth (condition.List o ss lookup ∷ cs) = omega (arith, most_le-members_depth cs, most_le-items_depth ss.items)
 
 pub parts_fall : (cs : List Condition) → max (most deep-Condition cs) 0 ≤ suc (members_depth (members_of cs))
 parts_fall cs = omega (arith, most_le-members_depth cs)

@@ -6,3 +6,5 @@ pub mod Falls
 pub mod Bounds
 pub mod Members
 pub mod FieldBounds
+pub mod Lookup
+pub mod LookedUp

@@ -19,7 +19,7 @@ name_of (condition.NotIn m) = value_operator_name IsNotIn
 name_of (condition.All m) = value_operator_name HasAll
 name_of (condition.SameAs path) = codes "$sameAs"
 name_of (condition.Selector o s) = selector_operator_name o
-name_of (condition.List o ss) = list_operator_name o
+name_of (condition.List o ss lookup) = list_operator_name o
 
 -- its value; a selector inside stands for a value already
 abbrev pub value_of : Condition → Value
@@ -32,7 +32,7 @@ value_of (condition.NotIn m) = m
 value_of (condition.All m) = m
 value_of (condition.SameAs path) = text path
 value_of (condition.Selector o s) = s
-value_of (condition.List o ss) = array (items_of ss.items)
+value_of (condition.List o ss lookup) = array (items_of ss.items)
 
 abbrev pub members_of : List Condition → Members
 members_of [] = no_members

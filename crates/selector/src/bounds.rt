@@ -84,9 +84,9 @@ pub(crate) fn bounds_of<'a>(condition: &'a Condition, path: Option<&FieldPath>) 
         Condition::Selector(SelectorOperator::IsFalse, _) => Bounds::Any,
         Condition::Selector(SelectorOperator::SomeElement, _) => bounds_here(whole_range(), path),
         Condition::Selector(SelectorOperator::EachElement, _) => bounds_here(whole_range(), path),
-        Condition::List(ListOperator::AllTrue, selectors) => bounds_of_all(selectors, path),
-        Condition::List(ListOperator::SomeTrue, selectors) => bounds_of_some(selectors, path),
-        Condition::List(ListOperator::NoneTrue, _) => Bounds::Any,
+        Condition::List(ListOperator::AllTrue, selectors, _) => bounds_of_all(selectors, path),
+        Condition::List(ListOperator::SomeTrue, selectors, _) => bounds_of_some(selectors, path),
+        Condition::List(ListOperator::NoneTrue, _, _) => Bounds::Any,
     }
 }
 
@@ -313,7 +313,7 @@ fn highest<'a>(first: Option<Edge<'a>>, second: Option<Edge<'a>>) -> Option<Edge
 
 /// Tells whether all that lies above the other low edge lies above this one; else all that lies
 /// above this one lies above the other.
-fn is_no_higher<'a>(edge: Edge<'a>, other: Edge<'a>) -> bool
+pub(crate) fn is_no_higher<'a>(edge: Edge<'a>, other: Edge<'a>) -> bool
     ensures { result ≡ is_no_higher (view edge.entry.value.now) edge.entry.inclusive (view other.entry.value.now) other.entry.inclusive }
 {
     match collate(edge.value, other.value) {
@@ -325,7 +325,7 @@ fn is_no_higher<'a>(edge: Edge<'a>, other: Edge<'a>) -> bool
 
 /// Tells whether all that lies below the other high edge lies below this one; else all that lies
 /// below this one lies below the other.
-fn is_no_lower<'a>(edge: Edge<'a>, other: Edge<'a>) -> bool
+pub(crate) fn is_no_lower<'a>(edge: Edge<'a>, other: Edge<'a>) -> bool
     ensures { result ≡ is_no_lower (view edge.entry.value.now) edge.entry.inclusive (view other.entry.value.now) other.entry.inclusive }
 {
     match collate(edge.value, other.value) {

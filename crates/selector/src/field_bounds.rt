@@ -130,8 +130,8 @@ fn add_condition<'a>(
         Condition::Field(field, _) | Condition::FieldIs(field, _) => {
             add_field(alloc, fields, condition, &field.path)
         }
-        Condition::List(ListOperator::AllTrue, selectors) => add_all(alloc, fields, selectors),
-        Condition::List(ListOperator::SomeTrue, selectors) => add_some(alloc, fields, selectors),
+        Condition::List(ListOperator::AllTrue, selectors, _) => add_all(alloc, fields, selectors),
+        Condition::List(ListOperator::SomeTrue, selectors, _) => add_some(alloc, fields, selectors),
         _ => Ok(()),
     }
 }

@@ -14,6 +14,7 @@ mod elements;
 mod fault;
 mod field_bounds;
 pub mod laws;
+mod lookup;
 mod matching;
 mod meeting;
 mod members;
@@ -22,6 +23,7 @@ mod parsing;
 mod rule_selector;
 mod selector;
 mod takes;
+mod value_set;
 
 pub use bounds::{Bounds, Edge};
 pub use fault::SelectorFault;

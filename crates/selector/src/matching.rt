@@ -1,16 +1,19 @@
 ghost use Rattle.std.specs.Prelude.{◌≡◌, Some, true, option_map, option_and_then};
-ghost use Rattle.std.specs.List.{list_all, list_any};
+ghost use Rattle.std.specs.List.{list_any};
 ghost use Rattle.couch_json.specs.FieldPath.{value_at};
 ghost use Rattle.couch_json.specs.Parts.{is_object, is_there_and};
 ghost use Rattle.couch_json.specs.View.{view, items_of, items_view};
+ghost use Rattle.selector.specs.Lookup.{lookup_decides, place_decides, truth_by};
+ghost use Rattle.selector.specs.LookedUp.{IsLookedUp};
 ghost use Rattle.selector.specs.Operators.{operator_named};
 ghost use Rattle.selector.specs.Truth.{are_same, is_true, truths, item_truths, member_truth, some_item, each_item, each_of_some, meets};
 ghost use Rattle.selector.specs.View.{name_of, value_of};
 
 use crate::elements::elements;
+use crate::lookup::{Lookup, selector_at};
 use crate::meeting::meets;
 use crate::members::Members;
-use crate::operator::{ListOperator, SelectorOperator, ValueOperator};
+use crate::operator::{ListOperator, SelectorOperator, ValueOperator, decides};
 use crate::selector::{Condition, Field, Selector};
 use couch_json::{Json, at, collate};
 
@@ -31,7 +34,7 @@ pub(crate) fn is_true(selector: &Selector, current: Option<&Json>, root: &Json) 
 
 #[cycle(truth)]
 fn is_condition_true(condition: &Condition, current: Option<&Json>, root: &Json) -> bool
-    ensures { let v = value_of condition.now in result
+    ensures { let v = value_of condition.now in IsLookedUp condition.now → result
         ≡ member_truth (view root.now) (operator_named (name_of condition.now)) (name_of condition.now) v
         (is_true (view root.now) v) (truths (view root.now) v) (option_map (λ v. view v.now) current.entry) }
 {
@@ -60,12 +63,9 @@ fn is_condition_true(condition: &Condition, current: Option<&Json>, root: &Json)
             Some(value) => is_true_of_each(selector, elements(value), root),
             None => false,
         },
-        Condition::List(ListOperator::AllTrue, selectors) => all_are_true(selectors, current, root),
-        Condition::List(ListOperator::SomeTrue, selectors) => some_is_true(
-            selectors, current, root,
-        ),
-        Condition::List(ListOperator::NoneTrue, selectors) => !some_is_true(
-            selectors, current, root,
+        Condition::List(operator, selectors, lookup) => is_true_by(
+            *operator,
+            list_decides(*operator, selectors, lookup, current, root),
         ),
     }
 }
@@ -160,26 +160,62 @@ fn is_true_of_all(selector: &Selector, items: &[Json], root: &Json) -> bool
     true
 }
 
-#[cycle(truth)]
-fn all_are_true(selectors: &Vec<Selector>, current: Option<&Json>, root: &Json) -> bool
-    ensures { result ≡ list_all (λ b. b) (item_truths (view root.now) (items_of selectors.now.items) (option_map (λ v. view v.now) current.entry)) }
+/// Tells whether a list is true, by whether one of its selectors decides it.
+fn is_true_by(operator: ListOperator, decided: bool) -> bool
+    ensures { result ≡ truth_by operator decided }
 {
-    for selector in selectors {
-        if !is_true(selector, current, root) {
-            return false;
-        }
+    match operator {
+        ListOperator::SomeTrue => decided,
+        ListOperator::AllTrue | ListOperator::NoneTrue => !decided,
     }
-    true
 }
 
+/// Tells whether what is looked up decides the list, or a selector that is asked.
 #[cycle(truth)]
-fn some_is_true(selectors: &Vec<Selector>, current: Option<&Json>, root: &Json) -> bool
-    ensures { result ≡ list_any (λ b. b) (item_truths (view root.now) (items_of selectors.now.items) (option_map (λ v. view v.now) current.entry)) }
+fn list_decides(
+    operator: ListOperator,
+    selectors: &Vec<Selector>,
+    lookup: &Lookup,
+    current: Option<&Json>,
+    root: &Json,
+) -> bool
+    ensures { result ≡ lookup_decides operator (view root.now) (option_map (λ v. view v.now) current.entry) selectors.now.items lookup.now }
 {
-    for selector in selectors {
-        if is_true(selector, current, root) {
+    lookup.decides(current) || one_decides(operator, selectors, &lookup.walked, current, root)
+}
+
+/// Tells whether one of the selectors at these places decides the list.
+#[cycle(truth)]
+fn one_decides(
+    operator: ListOperator,
+    selectors: &Vec<Selector>,
+    places: &Vec<usize>,
+    current: Option<&Json>,
+    root: &Json,
+) -> bool
+    ensures { result ≡ list_any (place_decides operator (view root.now) (option_map (λ v. view v.now) current.entry) selectors.now.items) places.now.items }
+{
+    for place in places {
+        if decides_at(operator, selectors, *place, current, root) {
             return true;
         }
     }
     false
+}
+
+/// Tells whether the selector at this place decides the list.
+#[cycle(truth)]
+fn decides_at(
+    operator: ListOperator,
+    selectors: &Vec<Selector>,
+    place: usize,
+    current: Option<&Json>,
+    root: &Json,
+) -> bool
+    ensures { result ≡ place_decides operator (view root.now) (option_map (λ v. view v.now) current.entry) selectors.now.items place }
+{
+    match selector_at(selectors, place) {
+        Some(selector) => decides(operator, is_true(selector, current, root)),
+        None => false,
+    }
 }

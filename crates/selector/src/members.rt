@@ -1,8 +1,10 @@
-ghost use Rattle.std.specs.Prelude.{◌≡◌, ◌≤◌, ◌<◌, IfOk, is_ok, length};
+ghost use Rattle.std.specs.Prelude.{◌≡◌, ◌≤◌, ◌<◌, IfOk, is_ok, length, true};
 ghost use Rattle.std.specs.List.{HoldsAt, list_all};
 ghost use Rattle.std.specs.declared.cmp.Ordering.TheVariants.{Equal};
 ghost use Rattle.couch_json.specs.Collation.{collation};
 ghost use Rattle.std.specs.List.Sorted.{IsStrictlySortedBy};
+ghost use Rattle.couch_json.specs.Parts.{is_array};
+ghost use Rattle.couch_json.specs.Value.{array};
 ghost use Rattle.couch_json.specs.View.{view, items_view};
 ghost use Rattle.selector.specs.Members.{HaveSame, marks_of, value_order};
 ghost use Rattle.selector.specs.Truth.{each_item, each_of_some, elements_or_none, is_element};
@@ -67,6 +69,19 @@ impl Members {
         })
     }
 
+    /// Takes values as the elements.
+    pub(crate) fn of_values(values: Vec<Json>) -> Members
+        ensures { result ≡ array (items_view values.items) }
+    {
+        let list = Json::Array(values);
+        let snapshot = Snapshot::of(&list);
+        let values = sort_values(into_elements(list));
+        Members {
+            values,
+            list: snapshot,
+        }
+    }
+
     /// Tells whether the value equals one of the elements.
     pub(crate) fn contains(&self, value: &Json) -> bool
         ensures { result ≡ is_element (view value.now) (elements_or_none self.now) }
@@ -97,6 +112,16 @@ fn copy_elements(alloc: Global, list: &Json) -> Got<Vec<Json>>
     match list.copy(alloc)? {
         Json::Array(items) => Ok(items),
         _ => Ok(Vec::new(alloc)),
+    }
+}
+
+fn into_elements(list: Json) -> Vec<Json>
+    requires { is_array (view list) ≡ true }
+    ensures { items_view result.items ≡ elements_or_none (view list) }
+{
+    match list {
+        Json::Array(items) => items,
+        _ => unreachable!(),
     }
 }
 

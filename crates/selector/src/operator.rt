@@ -1,4 +1,5 @@
 ghost use Rattle.std.specs.Prelude.{◌≡◌, IfSome};
+ghost use Rattle.selector.specs.Lookup.{decides};
 ghost use Rattle.selector.specs.Operators.{operator_name, operator_named};
 
 /// An operator, by what its argument is (CouchDB manual, api/database/find, "Operators").
@@ -96,4 +97,15 @@ pub(crate) fn operator_named(name: &str) -> Option<Operator>
         _ => return None,
     };
     Some(operator)
+}
+
+/// Tells whether a selector with this truth decides a list of selectors: a false one where all have to
+/// be true, else a true one.
+pub(crate) fn decides(operator: ListOperator, truth: bool) -> bool
+    ensures { result ≡ decides operator truth }
+{
+    match operator {
+        ListOperator::AllTrue => !truth,
+        ListOperator::SomeTrue | ListOperator::NoneTrue => truth,
+    }
 }

@@ -2,10 +2,12 @@ ghost use Rattle.std.specs.Prelude.{◌≡◌, ◌≢◌, ◌≤◌, ◌+◌, If
 ghost use Rattle.couch_json.specs.Value.{array};
 ghost use Rattle.couch_json.specs.View.{view, items_of, items_view, members_view};
 ghost use Rattle.selector.specs.Grammar.{selector_fault, list_fault, filled_fault, items_fault, members_fault, member_fault, field_fault, same_fault};
+ghost use Rattle.selector.specs.LookedUp.{AreLookedUp, IsLookedUp};
 ghost use Rattle.selector.specs.Operators.{operator_named, value_operator_name};
 ghost use Rattle.selector.specs.View.{name_of, value_of, members_of};
 
 use crate::fault::SelectorFault;
+use crate::lookup::Lookup;
 use crate::members::Members;
 use crate::operator::{Operator, ValueOperator, operator_named};
 use crate::selector::{BareValue, Condition, Field, Selector};
@@ -49,11 +51,12 @@ fn parse_members(
 ) -> Result<Vec<Condition>, SelectorFault>
     requires { level ≤ MAX_LEVEL }
     ensures members { IfOk result (λ cs. members_of cs.items ≡ members_view members.now.entries) }
+    ensures looked_up { IfOk result (λ cs. AreLookedUp cs.items) }
     ensures lawful { IfOk result (λ cs. members_fault in_rule (members_view members.now.entries) level ≡ None) }
     ensures fault { IfErr result (λ e. e ≢ SelectorFault.Memory
         → members_fault in_rule (members_view members.now.entries) level ≡ Some e) }
 {
-    let mut conditions = Vec::new(alloc);
+    let mut conditions = Vec::with_capacity(alloc, members.len())?;
     for (name, value) in members.as_slice() {
         conditions.push(parse_member(alloc, name, value, in_rule, level)?)?;
     }
@@ -71,6 +74,7 @@ fn parse_member(
     requires { level ≤ MAX_LEVEL }
     ensures name { IfOk result (λ c. name_of c ≡ name.now) }
     ensures value { IfOk result (λ c. value_of c ≡ view value.now) }
+    ensures looked_up { IfOk result (λ c. IsLookedUp c) }
     ensures lawful { IfOk result (λ c. member_fault in_rule (operator_named name.now) name.now (view value.now)
         (selector_fault in_rule (view value.now) (level + 1)) (list_fault in_rule (view value.now) (level + 1)) ≡ None) }
     ensures fault { IfErr result (λ e. e ≢ SelectorFault.Memory
@@ -92,10 +96,11 @@ fn parse_member(
             operator,
             parse_selector(alloc, value, in_rule, level + 1)?,
         )),
-        Some(Operator::List(operator)) => Ok(Condition::List(
-            operator,
-            parse_list(alloc, value, in_rule, level + 1)?,
-        )),
+        Some(Operator::List(operator)) => {
+            let selectors = parse_list(alloc, value, in_rule, level + 1)?;
+            let lookup = Lookup::of(alloc, operator, &selectors)?;
+            Ok(Condition::List(operator, selectors, lookup))
+        }
         None if name.starts_with('$') => Err(SelectorFault::Operator),
         None => parse_field(alloc, name, value, in_rule, level),
     }
@@ -105,6 +110,7 @@ fn parse_member(
 fn parse_value(alloc: Global, operator: ValueOperator, value: &Json) -> Got<Condition>
     ensures name { IfOk result (λ c. name_of c ≡ value_operator_name operator) }
     ensures value { IfOk result (λ c. value_of c ≡ view value.now) }
+    ensures looked_up { IfOk result (λ c. IsLookedUp c) }
 {
     match operator {
         ValueOperator::IsIn => Ok(Condition::In(Members::of(alloc, value)?)),
@@ -127,6 +133,7 @@ fn parse_field(
     requires name { operator_named name.now ≡ None }
     ensures name { IfOk result (λ c. name_of c ≡ name.now) }
     ensures value { IfOk result (λ c. value_of c ≡ view value.now) }
+    ensures looked_up { IfOk result (λ c. IsLookedUp c) }
     ensures lawful { IfOk result (λ c. field_fault name.now (view value.now) (selector_fault in_rule (view value.now) (level + 1)) ≡ None) }
     ensures fault { IfErr result (λ e. e ≢ SelectorFault.Memory
         → field_fault name.now (view value.now) (selector_fault in_rule (view value.now) (level + 1)) ≡ Some e) }
@@ -153,6 +160,7 @@ fn parse_field(
 fn parse_same(alloc: Global, value: &Json) -> Result<Condition, SelectorFault>
     ensures name { IfOk result (λ c. name_of c ≡ codes "$sameAs") }
     ensures value { IfOk result (λ c. value_of c ≡ view value.now) }
+    ensures looked_up { IfOk result (λ c. IsLookedUp c) }
     ensures lawful { IfOk result (λ c. same_fault true (view value.now) ≡ None) }
     ensures fault { IfErr result (λ e. e ≢ SelectorFault.Memory → same_fault true (view value.now) ≡ Some e) }
 {

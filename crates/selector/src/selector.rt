@@ -6,6 +6,7 @@ ghost use Rattle.selector.specs.Operators.{operator_named};
 use crate::bounds::{Bounds, bounds_in};
 use crate::fault::SelectorFault;
 use crate::field_bounds::{FieldBounds, field_bounds_in};
+use crate::lookup::Lookup;
 use crate::matching::is_true;
 use crate::members::Members;
 use crate::operator::{ListOperator, SelectorOperator, ValueOperator};
@@ -49,7 +50,9 @@ pub(crate) enum Condition {
     /// An operator and its selector.
     Selector(SelectorOperator, Selector),
     /// An operator and its selectors.
-    List(ListOperator, Vec<Selector>),
+    ///
+    /// Behind them stands what is looked up in place of asking each selector.
+    List(ListOperator, Vec<Selector>, Lookup),
 }
 
 impl Model for Selector {
@@ -63,6 +66,10 @@ impl Model for Selector {
     ghost use Rattle.selector.specs.View.{members_of};
 
     ghost view = { λ s. object (members_of s.conditions.items) };
+
+    ghost use Rattle.selector.specs.LookedUp.{AreLookedUp};
+
+    ghost invariant = { λ s. AreLookedUp s.conditions.items };
 
     ghost size = { depth };
 

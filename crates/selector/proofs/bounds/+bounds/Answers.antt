@@ -39,11 +39,11 @@ bounds_in-loop-condition-preserved t c =
 
 pub bounds_of-bounds_of_all-requires : goal.bounds_of-bounds_of_all-requires
 bounds_of-bounds_of_all-requires t c =
-    (omega (arith, c.decreases, most_within (deep-Condition c.args.condition.now) c.in-List-AllTrue-default.selectors.items (ap deep-Condition c.in-List-AllTrue-default.is)), tt)
+    (omega (arith, c.decreases, most_within (deep-Condition c.args.condition.now) c.in-List-AllTrue-default-default.selectors.items (ap deep-Condition c.in-List-AllTrue-default-default.is)), tt)
 
 pub bounds_of-bounds_of_some-requires : goal.bounds_of-bounds_of_some-requires
 bounds_of-bounds_of_some-requires t c =
-    (omega (arith, c.decreases, most_within (deep-Condition c.args.condition.now) c.in-List-SomeTrue-default.selectors.items (ap deep-Condition c.in-List-SomeTrue-default.is)), tt)
+    (omega (arith, c.decreases, most_within (deep-Condition c.args.condition.now) c.in-List-SomeTrue-default-default.selectors.items (ap deep-Condition c.in-List-SomeTrue-default-default.is)), tt)
 
 pub bounds_of-returns-in-FieldIs-clause-inside : goal.bounds_of-returns-in-FieldIs-clause-inside
 bounds_of-returns-in-FieldIs-clause-inside t c =

@@ -54,11 +54,11 @@ add_selector-returns-clause-bare t c =
 
 pub add_condition-add_all-requires : goal.add_condition-add_all-requires
 add_condition-add_all-requires t c =
-    (omega (arith, c.decreases, most_within (deep-Condition c.args.condition.now) c.in-List-AllTrue-default.selectors.items (ap deep-Condition c.in-List-AllTrue-default.is)), tt)
+    (omega (arith, c.decreases, most_within (deep-Condition c.args.condition.now) c.in-List-AllTrue-default-default.selectors.items (ap deep-Condition c.in-List-AllTrue-default-default.is)), tt)
 
 pub add_condition-add_some-requires : goal.add_condition-add_some-requires
 add_condition-add_some-requires t c =
-    (omega (arith, c.decreases, most_within (deep-Condition c.args.condition.now) c.in-List-SomeTrue-default.selectors.items (ap deep-Condition c.in-List-SomeTrue-default.is)), tt)
+    (omega (arith, c.decreases, most_within (deep-Condition c.args.condition.now) c.in-List-SomeTrue-default-default.selectors.items (ap deep-Condition c.in-List-SomeTrue-default-default.is)), tt)
 
 pub add_all-loop-selector-preserved : goal.add_all-loop-selector-preserved
 add_all-loop-selector-preserved t c =

@@ -1,13 +1,15 @@
-use Rattle.std.proofs.Common.{◌≡◌, ◌∷◌, ◌++◌, ◌+◌, [], None, false, drop, length, nat_eq, string_bytes, sym, ap, ◌∙◌, arith, rules}
+use Rattle.std.proofs.Common.{◌≡◌, ◌∷◌, ◌++◌, ◌+◌, [], None, false, drop, length, nat_eq, string_bytes, subst, sym, ap, ◌∙◌, arith, rules}
 use Rattle.std.proofs.lemmas.List.{drop_all}
 use Rattle.couch_json.specs.View.{view, items_view, members_view}
 use Rattle.couch_json.specs.Value.{member}
 use Rattle.couch_json.proofs.Depths.{entry_below, left_from}
 use Rattle.couch_json.proofs.value.Json.TheLaws.{the_size}
 use Rattle.selector.specs.Grammar.{first, member_fault, selector_fault, list_fault, members_fault, items_fault}
+use Rattle.selector.specs.LookedUp.{AreLookedUp}
 use Rattle.selector.specs.Operators.{operator_named}
 use Rattle.selector.specs.View.{name_of, value_of}
 use Rattle.selector.proofs.Joined.{members_then, members_then-no_members, members_then-push}
+use Rattle.selector.proofs.ListTruths.{looked_up-push}
 use Rattle.selector.proofs.Lists.{filled_fault-there}
 use Rattle.selector.proofs.parsing.+parse.Goals as goal
 
@@ -29,6 +31,7 @@ parse_members-loop-name-preserved t c =
     let v = view e.1 in
     let lawful : member_fault c.args.in_rule (operator_named n) n v (selector_fault c.args.in_rule v (c.args.level + 1)) (list_fault c.args.in_rule v (c.args.level + 1)) ≡ None = search rules in
     record {
+      looked_up = subst AreLookedUp (sym pushed) (looked_up-push done new l.invariant.looked_up c.in_ok-parse_member.ensures.looked_up);
       members = ap (λ cs. members_then cs left) pushed ∙ members_then-push done new left ∙ ap (members_then done) taken ∙ l.invariant.members;
       fault = l.invariant.fault ∙ ap (λ es. members_fault c.args.in_rule (members_view es) c.args.level) steps
           ∙ ap (λ f. first f (members_fault c.args.in_rule left c.args.level)) lawful;

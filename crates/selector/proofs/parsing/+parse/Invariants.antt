@@ -1,11 +1,13 @@
 use Rattle.std.proofs.Common.{◌≡◌, drop, take, map}
 use Rattle.couch_json.specs.View.{view, items_view, members_view}
 use Rattle.selector.specs.Grammar.{filled_fault, items_fault, members_fault}
+use Rattle.selector.specs.LookedUp.{AreLookedUp}
 use Rattle.selector.proofs.Joined.{members_then}
 use Rattle.selector.proofs.parsing.+parse.Given as goal
 
 abbrev pub invariant-parse_members-loop-name : goal.invariant-parse_members-loop-name
 invariant-parse_members-loop-name l = record {
+  looked_up : AreLookedUp l.conditions.items;
   members : members_then l.conditions.items (members_view (drop l.name-index l.name-items)) ≡ members_view l.members.entries;
   fault : members_fault l.in_rule (members_view l.members.entries) l.level ≡ members_fault l.in_rule (members_view (drop l.name-index l.name-items)) l.level;
 }
