@@ -8,18 +8,10 @@ use Rattle.sqlite_trees.specs.declared.store.Store.{Ghosts}
 use Rattle.tables.specs.Calls.{Reads}
 use Rattle.tables.specs.Schema.{schema}
 use Rattle.tables.specs.Steps.{Asks}
-use Rattle.file_check.specs.Checks.{Checks, IsSame, LeavesRows}
+pub use Rattle.file_check.proofs.Accounts.{if_ok, on_ok, same_itself, same_then, unchanged_same}
+use Rattle.file_check.specs.Checks.{Checks, LeavesRows}
 
 -- ---- states
-
-pub same_itself : (a : State) → IsSame a a
-same_itself a = record { now = refl; committed = refl; mode = refl; is_open = refl }
-
-pub same_then : (a b c : State) → IsSame a b → IsSame b c → IsSame a c
-same_then a b c p q = record { now = q.now ∙ p.now; committed = q.committed ∙ p.committed; mode = q.mode ∙ p.mode; is_open = q.is_open ∙ p.is_open }
-
-pub unchanged_same : (a b : State) → IsUnchanged a b → IsSame a b
-unchanged_same a b u = record { now = u.0.now_is; committed = u.0.committed_is; mode = u.0.mode; is_open = u.0.is_open ∙ sym u.0.was_open }
 
 asks_itself : (a : State) → Asks a a
 asks_itself a = record { clean = λ c. c; was_open = λ c up. up; mode = λ m. m; limit = refl }
@@ -50,14 +42,6 @@ leaves_then a b c p q = record {
     rows up (inr is) = inr (is ∙ p.kept.committed (q.kept.was_open up))
 
 -- ---- checks
-
-pub on_ok : {X E P Q : Type 0} (r : Result X E) → (P → Q) → OnOk r P → OnOk r Q
-on_ok (Ok x) f p = f p
-on_ok (Err e) f p = tt
-
-pub if_ok : {X E : Type 0} {P Q : X → Type 0} (r : Result X E) → ((x : X) → P x → Q x) → IfOk r P → IfOk r Q
-if_ok (Ok x) f p = f x p
-if_ok (Err e) f p = tt
 
 on_all : {X E P : Type 0} (r : Result X E) → P → OnOk r P
 on_all (Ok x) p = p

@@ -2,6 +2,8 @@ pub mod Schemas
 pub mod Written
 pub mod Assembled
 pub mod Shaped
+pub mod Refused
+pub mod Accounts
 pub mod Inspecting
 pub mod Going
 pub mod Statements

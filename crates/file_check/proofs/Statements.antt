@@ -3,11 +3,12 @@ use Rattle.tables.proofs.Common.{AllByRecursion, AreKeyed, Blob, IfOk, Int, IsKe
 use Rattle.std.specs.Prelude.{take}
 use Rattle.sqlite_sql.specs.declared.ops.CompareOp.TheVariants.{Eq}
 use Rattle.sqlite_typed.proofs.TestLemmas.{last_term, then_term}
-use Rattle.tables.proofs.Cells.{compares, int_by, same_blob, same_text, tests_id}
+use Rattle.tables.proofs.Cells.{by_id, compares, int_by, same_blob, same_text, tests_id}
 use Rattle.tables.proofs.DatabaseStatements.{by_number, tests_number}
-use Rattle.tables.proofs.DocumentStatements.{document_is, document_text}
+use Rattle.tables.proofs.DocumentStatements.{document_is, document_text, listed}
 use Rattle.tables.proofs.Finds.{finds_one, finds_where}
 use Rattle.tables.proofs.Queries.{first_program, program_on}
+use Rattle.file_check.proofs.Refused.{IsAsked, page_asked}
 use Rattle.tables.proofs.RevisionStatements.{revisions_are, revisions_text}
 use Rattle.tables.proofs.Tables.{one_numbered, one_of}
 use Rattle.tables.proofs.Writes.{IsCommand}
@@ -31,6 +32,10 @@ version_columns = col 1 0 ∷ col 1 1 ∷ []
 pub versions_are : IsCommand schema versions_text (Select (program_on meta_tree [] version_columns []) (codes "rowid" ∷ codes "version" ∷ []))
 unfolding understood everything
 versions_are = record { is = refl; plain = (refl, refl); unlisted = refl }
+
+pub versions_asked : IsAsked versions_text (program_on meta_tree [] version_columns []) []
+unfolding understood everything
+versions_asked = page_asked (refl, refl) refl
 
 mapped_whole : (f : Row → Row) (rows : List Row) → AllByRecursion (λ r. f r ≡ r) rows → map f rows ≡ rows
 mapped_whole f [] all = refl
@@ -97,6 +102,21 @@ behind_is Documents = record { is = refl; plain = (refl, refl); unlisted = refl 
 behind_is Revisions = record { is = refl; plain = (refl, refl); unlisted = refl }
 behind_is Locals = record { is = refl; plain = (refl, refl); unlisted = refl }
 
+-- each is asked as it is to be
+first_asked : (of : Checked) → IsAsked (first_statement of) (first_program (tree_of of) [] (columns_of of) number_order one) []
+unfolding understood everything
+first_asked Databases = page_asked (refl, refl) refl
+first_asked Documents = page_asked (refl, refl) refl
+first_asked Revisions = page_asked (refl, refl) refl
+first_asked Locals = page_asked (refl, refl) refl
+
+behind_asked : (of : Checked) (last : ℤ) → IsAsked (behind_statement of) (first_program (tree_of of) by_behind (columns_of of) number_order one) (Int last ∷ [])
+unfolding understood everything
+behind_asked Databases last = page_asked (refl, refl) refl
+behind_asked Documents last = page_asked (refl, refl) refl
+behind_asked Revisions last = page_asked (refl, refl) refl
+behind_asked Locals last = page_asked (refl, refl) refl
+
 -- the parameters are not shown
 shows : (of : Checked) (params r : Row) → eval_all (columns_of of) (params ∷ r ∷ []) ≡ shown_of of r
 shows Databases params r = refl
@@ -117,6 +137,13 @@ first_means of text is = subst (Shows [] of) (sym is) (first_is of)
 
 pub behind_means : (of : Checked) (text : List ℕ) → text ≡ behind_statement of → Shows by_behind of text
 behind_means of text is = subst (Shows by_behind of) (sym is) (behind_is of)
+
+-- and asks for it
+pub asks_first : (of : Checked) (text : List ℕ) → text ≡ first_statement of → IsAsked text (first_program (tree_of of) [] (columns_of of) number_order one) []
+asks_first of text is = subst (λ t. IsAsked t (first_program (tree_of of) [] (columns_of of) number_order one) []) (sym is) (first_asked of)
+
+pub asks_behind : (of : Checked) (text : List ℕ) (last : ℤ) → text ≡ behind_statement of → IsAsked text (first_program (tree_of of) by_behind (columns_of of) number_order one) (Int last ∷ [])
+asks_behind of text last is = subst (λ t. IsAsked t (first_program (tree_of of) by_behind (columns_of of) number_order one) (Int last ∷ [])) (sym is) (behind_asked of last)
 
 -- the rows that come next are shown as they are
 next_whole : (of : Checked) (old : State) → IsShaped old.now → (last : Option ℤ) → next_rows (shown_of of) last (old.now.trees (tree_of of)) ≡ next_rows (λ r. r) last (old.now.trees (tree_of of))
@@ -146,6 +173,14 @@ pub length_is : IsCommand schema length_text (Select (program_on dbs_tree by_num
 unfolding understood everything
 length_is = record { is = refl; plain = (refl, refl); unlisted = refl }
 
+pub length_asked : (n : ℤ) → IsAsked length_text (program_on dbs_tree by_number (col 1 4 ∷ []) []) (Int n ∷ [])
+unfolding understood everything
+length_asked n = page_asked (refl, refl) refl
+
+pub history_asked : (db : ℤ) (id : List ℕ) → IsAsked revisions_text (program_on revs_tree by_id (col 1 3 ∷ col 1 4 ∷ col 1 5 ∷ col 1 6 ∷ col 1 7 ∷ col 1 8 ∷ []) []) (Int db ∷ Blob id ∷ [])
+unfolding understood everything
+history_asked db id = page_asked (refl, refl) refl
+
 abbrev sequence_text : List ℕ
 sequence_text = codes "SELECT seq FROM docs WHERE db = ?1 AND seq = ?2"
 
@@ -155,6 +190,10 @@ by_sequence = compares Eq 1 0 ∷ compares Eq 3 1 ∷ []
 pub sequence_is : IsCommand schema sequence_text (Select (program_on docs_tree by_sequence (col 1 3 ∷ []) []) (codes "seq" ∷ []))
 unfolding understood everything
 sequence_is = record { is = refl; plain = (refl, refl); unlisted = refl }
+
+pub sequence_asked : (db sequence : ℤ) → IsAsked sequence_text (program_on docs_tree by_sequence (col 1 3 ∷ []) []) (Int db ∷ Int sequence ∷ [])
+unfolding understood everything
+sequence_asked db sequence = page_asked (refl, refl) refl
 
 abbrev pub stored_text : List ℕ
 stored_text = codes "SELECT n FROM revs WHERE db = ?1 AND id = ?2 AND n = ?3 AND hash = ?4"
@@ -166,6 +205,10 @@ pub stored_are : IsCommand schema stored_text (Select (program_on revs_tree by_s
 unfolding understood everything
 stored_are = record { is = refl; plain = (refl, refl); unlisted = refl }
 
+pub stored_asked : (db : ℤ) (id : List ℕ) (n : ℤ) (hash : List ℕ) → IsAsked stored_text (program_on revs_tree by_stored (col 1 3 ∷ []) []) (Int db ∷ Blob id ∷ Int n ∷ Text hash ∷ [])
+unfolding understood everything
+stored_asked db id n hash = page_asked (refl, refl) refl
+
 abbrev pub hashes_text : List ℕ
 hashes_text = codes "SELECT hash FROM revs WHERE db = ?1 AND id = ?2 AND n = ?3"
 
@@ -175,6 +218,14 @@ by_numbered = compares Eq 1 0 ∷ compares Eq 2 1 ∷ compares Eq 3 2 ∷ []
 pub hashes_are : IsCommand schema hashes_text (Select (program_on revs_tree by_numbered (col 1 4 ∷ []) []) (codes "hash" ∷ []))
 unfolding understood everything
 hashes_are = record { is = refl; plain = (refl, refl); unlisted = refl }
+
+pub hashes_asked : (db : ℤ) (id : List ℕ) (n : ℤ) → IsAsked hashes_text (program_on revs_tree by_numbered (col 1 4 ∷ []) []) (Int db ∷ Blob id ∷ Int n ∷ [])
+unfolding understood everything
+hashes_asked db id n = page_asked (refl, refl) refl
+
+pub document_asked : (db : ℤ) (id : List ℕ) → IsAsked document_text (program_on docs_tree by_id listed []) (Int db ∷ Blob id ∷ [])
+unfolding understood everything
+document_asked db id = page_asked (refl, refl) refl
 
 pub documents_keyed : (old : State) → IsShaped old.now → AreKeyed (old.now.trees docs_tree)
 documents_keyed old fit = record {

@@ -4,7 +4,7 @@ use Rattle.std.specs.Prelude.{IfSome}
 use Rattle.sqlite.specs.State.{IsLive}
 use Rattle.sqlite_catalog.specs.Listing.{IsSound}
 use Rattle.file_check.proofs.Assembled.{AreSound, is_laid}
-use Rattle.file_check.proofs.CheckSteps.{on_ok, unchanged_same}
+use Rattle.file_check.proofs.Accounts.{on_ok, unchanged_same}
 use Rattle.file_check.proofs.IndexRows.{never_fails}
 use Rattle.file_check.proofs.Laid.{all_end, kept_where_laid, sound_where_laid}
 use Rattle.file_check.proofs.Shaped.{are_shaped}
@@ -65,5 +65,5 @@ module _ {S : Type 0} (g : Ghosts S) (old new : Held S) (live : IsLive (state g 
   tables_served (Ok found) h = λ none. h.served clean
 
 -- what reads at this server's schema leaves the connection as it was
-pub reads_stay : {S X E : Type 0} (g : Ghosts S) (old new : Held S) {F : Database → Type 0} {Is : Trees → X → Type 0} (r : Result X E) → old.schema ≡ schema → HasCleanDisk (state g new) → Inspects g F old new Is r → OnOk r (IsSame (state g old) (state g new))
+pub reads_stay : {S X : Type 0} (g : Ghosts S) (old new : Held S) {F : Database → Type 0} {Is : Trees → X → Type 0} (r : Result X CheckFault) → old.schema ≡ schema → HasCleanDisk (state g new) → Inspects g F old new Is r → OnOk r (IsSame (state g old) (state g new))
 reads_stay g old new r has clean h = on_ok r (unchanged_same (state g old) (state g new)) (h.stands has clean)

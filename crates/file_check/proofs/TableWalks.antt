@@ -6,11 +6,13 @@ use Rattle.file_check.specs.Tables.{IsShaped, IsSoundRow, table_of_finding, tree
 use Rattle.file_check.specs.inner.Queries.{AreRowsChecked, HasCells, IsBefore, Judges}
 use Rattle.file_check.specs.inner.Walks.{AreWalked, IsRowStep, IsStep, is_behind, next_rows}
 use Rattle.file_check.specs.declared.finding.CheckFault.{CheckFault}
+use Rattle.file_check.specs.declared.finding.CheckFault.TheVariants.{Memory}
 use Rattle.file_check.specs.declared.finding.Finding.{Finding}
 use Rattle.file_check.specs.declared.finding.Wrong.{Wrong}
 use Rattle.file_check.specs.declared.indexes.step.Step.{Step}
 use Rattle.file_check.specs.declared.indexes.step.Step.TheVariants.{Next, Found, Done}
 use Rattle.file_check.specs.declared.layout.checked.Checked.{Checked}
+use Rattle.file_check.proofs.Accounts.{accounts_lost}
 use Rattle.file_check.proofs.Going.{goes_inspects, goes_of, goes_pure, goes_so, goes_then}
 use Rattle.file_check.proofs.Inspecting.{inspects_nothing, inspects_so}
 use Rattle.file_check.proofs.Walked.{cells_of, numbered_rows}
@@ -72,30 +74,37 @@ comes of last d fit so Done is = λ before. walked_all (IsSoundRow of d.trees) l
 module _ {S : Type 0} (g : Ghosts S) (of : Checked) where
   -- the rows up to the last one are sound, and the connection is as it was
   abbrev pub Walked : Option ℤ → Held S → Held S → Type 0
-  Walked last a b = Goes {X = Unit {0}} {E = CheckFault} g IsShaped a b (λ trees done. AreSoundUpTo of last trees) (Ok tt)
+  Walked last a b = Goes {X = Unit {0}} g IsShaped a b (λ trees done. AreSoundUpTo of last trees) (Ok tt)
 
   pub begins : (a : Held S) → Walked None a a
-  begins a = goes_pure a (λ trees done. AreSoundUpTo of None trees) (Ok tt) (λ trees before. walked_none (IsSoundRow of trees) (trees (tree_of of)))
+  begins a = goes_pure a (λ trees done. AreSoundUpTo of None trees) tt (λ trees before. walked_none (IsSoundRow of trees) (trees (tree_of of)))
 
   module _ (last : Option ℤ) {a b c : Held S} where
     stepped : (r : Result Step CheckFault) → Walked last a b → Inspects g IsShaped b c (Tells of last) r → Inspects g IsShaped a c (Comes of) r
     stepped r p q = goes_inspects (λ d fit. fit.schema_is) (Comes of) tt r (λ d fit so. comes of last d fit so) p q
 
-    pub goes_on : (n : ℤ) → Walked last a b → Inspects {E = CheckFault} g IsShaped b c (Tells of last) (Ok (Next n)) → Walked (Some n) a c
+    pub goes_on : (n : ℤ) → Walked last a b → Inspects g IsShaped b c (Tells of last) (Ok (Next n)) → Walked (Some n) a c
     goes_on n p q =
         goes_then (λ d fit. fit.schema_is) (λ trees done. AreSoundUpTo of (Some n) trees) tt (λ d fit so done is. comes of last d fit so (Next n) is)
-        (goes_so (λ trees done. Tells of last trees (Next n)) (Next n) (Ok tt) (λ trees h. h) (goes_of q)) p
+        (goes_so (λ trees done. Tells of last trees (Next n)) (Next n) tt (λ trees h. h) (goes_of q)) p
 
-    pub finds : (f : Finding) → Walked last a b → Inspects {E = CheckFault} g IsShaped b c (Tells of last) (Ok (Found f)) → Inspects {E = CheckFault} g IsShaped a c (TellsAll of) (Ok (Some f))
-    finds f p q = inspects_so (TellsAll of) (Found f) (Ok (Some f)) (λ trees h. h) (stepped (Ok (Found f)) p q)
+    pub finds : (f : Finding) → Walked last a b → Inspects g IsShaped b c (Tells of last) (Ok (Found f)) → Inspects g IsShaped a c (TellsAll of) (Ok (Some f))
+    finds f p q = inspects_so (TellsAll of) (Found f) (Some f) (λ trees h. h) (stepped (Ok (Found f)) p q)
 
-    pub ends : Walked last a b → Inspects {E = CheckFault} g IsShaped b c (Tells of last) (Ok Done) → Inspects {E = CheckFault} g IsShaped a c (TellsAll of) (Ok None)
-    ends p q = inspects_so (TellsAll of) Done (Ok None) (λ trees h. h) (stepped (Ok Done) p q)
+    pub ends : Walked last a b → Inspects g IsShaped b c (Tells of last) (Ok Done) → Inspects g IsShaped a c (TellsAll of) (Ok None)
+    ends p q = inspects_so (TellsAll of) Done None (λ trees h. h) (stepped (Ok Done) p q)
 
     -- a step that comes to no end
-    pub fails : (e : CheckFault) (r : Result (Option Finding) CheckFault) → r ≡ Err e → Walked last a b → Inspects {E = CheckFault} g IsShaped b c (Tells of last) (Err e) → Inspects g IsShaped a c (TellsAll of) r
-    fails e r is p q = inspects_nothing (TellsAll of) e e r is (stepped (Err e) p q)
+    pub fails : (e : CheckFault) (r : Result (Option Finding) CheckFault) → r ≡ Err e → Walked last a b → Inspects g IsShaped b c (Tells of last) (Err e) → Inspects g IsShaped a c (TellsAll of) r
+    fails e r is p q = inspects_nothing (TellsAll of) e r is (stepped (Err e) p q)
 
   -- there are too many rows
-  pub gives_up : (last : Option ℤ) (e : CheckFault) {a b : Held S} → Walked last a b → Inspects g IsShaped a b (TellsAll of) (Err e)
-  gives_up last e p = record { found = λ clean fit. tt; served = λ clean. tt; stands = λ has clean. tt; looks = λ has clean up. p.looks has clean (p.asks.was_open clean up) up; asks = p.asks }
+  pub gives_up : (last : Option ℤ) {a b : Held S} → Walked last a b → Inspects g IsShaped a b (TellsAll of) (Err Memory)
+  gives_up last p = record {
+    found = λ clean fit. tt;
+    served = λ clean. tt;
+    stands = λ has clean. tt;
+    looks = λ has clean up. p.looks has clean (p.asks.was_open clean up) up;
+    asks = p.asks;
+    accounts = accounts_lost g p.accounts;
+  }

@@ -19,7 +19,7 @@ use Rattle.file_check.specs.declared.finding.CheckFault.{CheckFault}
 use Rattle.file_check.specs.inner.Counted.{HasOurSchema}
 use Rattle.file_check.specs.declared.finding.Counts.{Counts}
 use Rattle.file_check.specs.declared.finding.Finding.{Finding}
-use Rattle.file_check.proofs.CheckSteps.{on_ok, same_then, unchanged_same}
+use Rattle.file_check.proofs.Accounts.{on_ok, same_then, unchanged_same}
 use Rattle.file_check.proofs.IndexCells.{index_cells}
 use Rattle.file_check.proofs.IndexRows.{not_indexed, own_text}
 use Rattle.file_check.proofs.Stores.{IsStoreChecked}
@@ -38,7 +38,7 @@ module _ {S : Type 0} (g : Ghosts S) (old mid : Held S) (tables : Found) (none :
   same_tables clean = subst (λ r. OnOk r (IsSame (state g old) (state g mid))) none (stays clean)
 
   -- the tables are those of a store between two calls
-  resting : HasCleanDisk (state g mid) → IsRestingStore (state g old).now
+  pub resting : HasCleanDisk (state g mid) → IsRestingStore (state g old).now
   resting clean = subst (λ r. IfOk r (IsStoreChecked (state g old).now)) none (sound clean has)
 
   -- the rows of indexes can be checked
@@ -61,7 +61,7 @@ module _ {S : Type 0} (g : Ghosts S) (old mid : Held S) (tables : Found) (none :
         on_ok indexes (same_then (state g old) (state g mid) (state g after) (same_tables was)) (checks.stays clean (fit was))
 
     -- nothing is found there, and the rows are counted
-    module _ (new : Held S) (none' : indexes ≡ Ok None) (counts : Counts) (counted : Inspects {E = CheckFault} g HasOurSchema after new CountsRows (Ok counts)) where
+    module _ (new : Held S) (none' : indexes ≡ Ok None) (counts : Counts) (counted : Inspects g HasOurSchema after new CountsRows (Ok counts)) where
       same_after : HasCleanDisk (state g after) → IsSame (state g old) (state g after)
       same_after clean = subst (λ r. OnOk r (IsSame (state g old) (state g after))) none' (same_indexes clean)
 

@@ -1,6 +1,7 @@
 pub mod Tables
 pub mod Inspecting
 pub mod Indexes
+pub mod Refusals
 pub mod Checks
 pub mod Schemas
 pub mod Counting

@@ -3,6 +3,7 @@
 ghost use Rattle.std.specs.Prelude.{◌≡◌, ◌∷◌, [], ℕ, Some, length, min};
 ghost use Rattle.tables.specs.Calls.{Reads};
 ghost use Rattle.tables.specs.Listings.{shown_count};
+ghost use Rattle.file_check.specs.Refusals.{RefusesOnly};
 ghost use Rattle.file_check.specs.Counting.{CountsRows, row_count};
 ghost use Rattle.file_check.specs.Inspecting.{Inspects};
 ghost use Rattle.file_check.specs.inner.Counted.{HasOurSchema, count_statement, counted_tree};
@@ -72,8 +73,9 @@ fn read_count(rows: &[Row]) -> Option<u64>
 
 /// Returns one row, which tells how many rows a table has.
 fn count_shown<S: Alter>(conn: &mut Connection<S>, table: Counted) -> Result<Vec<Row>, Error>
-    ensures { Reads S.Store HasOurSchema conn.old conn.new
+    ensures reads { Reads S.Store HasOurSchema conn.old conn.new
         (λ trees rows. rows.items ≡ shown_count (length (trees (counted_tree table))) ∷ []) result }
+    ensures failed { RefusesOnly S.Store conn.old conn.new result }
 {
     query(conn, count_text(table), &[])
 }

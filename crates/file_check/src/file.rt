@@ -5,9 +5,10 @@ ghost use Rattle.sqlite.specs.Held.{state};
 ghost use Rattle.sqlite.specs.State.{HasCleanDisk};
 ghost use Rattle.tables.specs.Schema.{schema};
 ghost use Rattle.tables.specs.Steps.{Asks};
-ghost use Rattle.file_check.specs.Checks.{IsSame};
+ghost use Rattle.file_check.specs.Checks.{FailsOnly, IsSame};
 ghost use Rattle.file_check.specs.Counting.{CountsIfSound};
 ghost use Rattle.file_check.specs.Schemas.{IsOtherLayout};
+ghost use Rattle.file_check.specs.Tables.{IsRestingStore};
 ghost use Rattle.file_check.specs.Verdicts.{AreAllKept, NamesUnsound, Refutes, Vouches};
 
 use crate::counting::count_rows;
@@ -36,6 +37,10 @@ pub fn check<S: Alter>(alloc: Global, conn: &mut Connection<S>) -> Result<Verdic
     ensures stays { HasCleanDisk (state S.Store conn.new) → AreAllKept (state S.Store conn.old).now.trees
         → OnOk result (IsSame (state S.Store conn.old) (state S.Store conn.new)) }
     ensures asks { Asks (state S.Store conn.old) (state S.Store conn.new) }
+    // At this server's schema tables that are those of no store are told as such: nothing else comes of them, unless memory ran out,
+    // or the library refused a query.
+    ensures failed { AreAllKept (state S.Store conn.old).now.trees → ¬ IsRestingStore (state S.Store conn.old).now
+        → FailsOnly S.Store conn.old conn.new result }
 {
     if let Some(finding) = check_tables(alloc, conn)? {
         return Ok(Verdict::Unsound(finding));

@@ -27,7 +27,7 @@ use sqlite::{Alter, Connection};
 use std::alloc::Global;
 
 /// Checks all rows of the tables of databases, documents, revisions and local documents, and the version.
-#[tactic(auto, using(crate::proofs::Going::goes_of, crate::proofs::Stores::reads_stay, crate::proofs::CheckSteps::same_itself))]
+#[tactic(auto, using(crate::proofs::Going::goes_of, crate::proofs::Stores::reads_stay, crate::proofs::Accounts::accounts_none, crate::proofs::Accounts::same_itself))]
 pub fn check_tables<S: Alter>(
     alloc: Global,
     conn: &mut Connection<S>,

@@ -12,13 +12,14 @@ use crate::finding::{CheckFault, Wrong};
 use crate::layout::cells::{blob_at, count_at, text_at};
 use crate::layout::finding_rows::{has_sequence, whole_or_zero};
 use crate::layout::texts::is_security_text;
+use couch_json::Got;
 use sqlite::{Alter, Connection, Row};
 use std::alloc::Global;
 use store::is_database_name;
 
 /// Tells what is wrong with the row of a database by itself, if anything is.
 #[tactic(auto, using(crate::proofs::RowForms::database_forms))]
-fn judge_row(alloc: Global, row: &Row) -> Result<Option<Wrong>, CheckFault>
+fn judge_row(alloc: Global, row: &Row) -> Got<Option<Wrong>>
     ensures { HasDatabaseCells row.now → IfOk result (Judges (IsDatabaseRow row.now)) }
 {
     let Some(name) = blob_at(row, 2) else {
@@ -49,7 +50,7 @@ fn is_ended(sequence: i64, there: bool) -> bool
 
 /// Tells what is wrong with the row of a database, where a document is at its sequence or is not.
 #[tactic(auto, using(crate::proofs::RowForms::ended_forms))]
-fn judge_ended(alloc: Global, row: &Row, there: bool) -> Result<Option<Wrong>, CheckFault>
+fn judge_ended(alloc: Global, row: &Row, there: bool) -> Got<Option<Wrong>>
     ensures { HasDatabaseCells row.now → IfOk result (Judges (IsEndedDatabase row.now there)) }
 {
     if let Some(wrong) = judge_row(alloc, row)? {
@@ -70,5 +71,5 @@ pub(crate) fn check_database<S: Alter>(
     ensures { Inspects S.Store IsShaped conn.old conn.new (λ trees found. HasDatabaseCells row.now → Judges (IsSoundDatabase trees row.now) found) result }
 {
     let there = has_sequence(conn, &whole_or_zero(row, 0), &whole_or_zero(row, 4))?;
-    judge_ended(alloc, row, there)
+    Ok(judge_ended(alloc, row, there)?)
 }

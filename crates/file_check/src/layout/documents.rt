@@ -19,6 +19,7 @@ use crate::layout::cells::{blob_at, count_at, whole_at};
 use crate::layout::finding_rows::{bytes_at, find_length, whole_or_zero};
 use crate::layout::ids::is_id_of_document;
 use crate::layout::statements::history_rows;
+use couch_json::{Got, NoMemory};
 use sqlite::{Alter, Connection, Row};
 use std::alloc::Global;
 use store::StoreFault;
@@ -52,12 +53,7 @@ fn judge_row(row: &Row) -> Option<Wrong>
 }
 
 /// Tells whether the text is that of the winner of a history, and this is its mark.
-fn is_winning(
-    alloc: Global,
-    history: &History,
-    text: &[u8],
-    deleted: bool,
-) -> Result<bool, CheckFault>
+fn is_winning(alloc: Global, history: &History, text: &[u8], deleted: bool) -> Got<bool>
     ensures { IfOk result (λ is. IsTrue is ↔ IsWinning history.now text.now deleted) }
 {
     let Some(winner) = history.winner() else {
@@ -80,7 +76,7 @@ fn are_held(history: &History, leaves: &[Rev]) -> bool
 }
 
 /// Tells whether something is held of each leaf of a history.
-fn has_held_leaves(history: &History) -> Result<bool, CheckFault>
+fn has_held_leaves(history: &History) -> Got<bool>
     ensures { IfOk result (λ is. IsTrue is ↔ HasHeldLeaves history.now) }
 {
     let leaves = history.leaves()?;
@@ -109,12 +105,12 @@ fn is_marked(row: &Row) -> bool
 }
 
 /// Reads the history that the rows make, if they are rows of revisions.
-fn read_rows(alloc: Global, rows: Vec<Row>) -> Result<Option<History>, CheckFault>
+fn read_rows(alloc: Global, rows: Vec<Row>) -> Got<Option<History>>
     ensures { IfOk result (λ found. MatchOption found (¬ AllByRecursion IsShownRevision rows.items) (λ history. history ≡ history_shown rows.items)) }
 {
     match read_history(alloc, rows) {
         Ok(history) => Ok(Some(history)),
-        Err(StoreFault::Memory) => Err(CheckFault::Memory),
+        Err(StoreFault::Memory) => Err(NoMemory),
         Err(_) => Ok(None),
     }
 }
@@ -127,7 +123,7 @@ fn judge_owned(
     row: &Row,
     length: Option<i64>,
     history: &History,
-) -> Result<Option<Wrong>, CheckFault>
+) -> Got<Option<Wrong>>
     ensures { IfOk result (Judges (IsOwnedDocument row.now length history.now)) }
 {
     if length.is_none() {
@@ -153,7 +149,7 @@ fn judge_document(
     row: &Row,
     length: Option<i64>,
     rows: Vec<Row>,
-) -> Result<Option<Wrong>, CheckFault>
+) -> Got<Option<Wrong>>
     ensures { AllByRecursion IsShownRevision rows.items → IfOk result (Judges (IsOwnedDocument row.now length (history_shown rows.items))) }
 {
     let Some(history) = read_rows(alloc, rows)? else {
@@ -163,12 +159,7 @@ fn judge_document(
 }
 
 /// Tells what is wrong with the row of such a document, by itself or beside them.
-fn judge_whole(
-    alloc: Global,
-    row: &Row,
-    length: Option<i64>,
-    rows: Vec<Row>,
-) -> Result<Option<Wrong>, CheckFault>
+fn judge_whole(alloc: Global, row: &Row, length: Option<i64>, rows: Vec<Row>) -> Got<Option<Wrong>>
     ensures { HasDocumentCells row.now → AllByRecursion IsShownRevision rows.items
         → IfOk result (Judges (IsLawfulDocument row.now × IsOwnedDocument row.now length (history_shown rows.items))) }
 {
@@ -190,7 +181,7 @@ fn check_owned<S: Alter>(
         → Judges (IsSoundDocument trees row.now) found) result }
 {
     let rows = history_rows(conn, &whole_or_zero(row, 1), bytes_at(row, 2))?;
-    judge_whole(alloc, row, length, rows)
+    Ok(judge_whole(alloc, row, length, rows)?)
 }
 
 /// Checks the row of a document.

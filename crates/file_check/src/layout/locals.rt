@@ -12,6 +12,7 @@ use crate::layout::cells::{blob_at, count_at, text_at};
 use crate::layout::finding_rows::{find_length, whole_or_zero};
 use crate::layout::ids::is_id_of_local;
 use crate::layout::texts::is_body_text;
+use couch_json::Got;
 use sqlite::{Alter, Connection, Row};
 use std::alloc::Global;
 
@@ -20,7 +21,7 @@ const GREATEST_NUMBER: u64 = 2_147_483_647;
 
 /// Tells what is wrong with the row of a local document by itself, if anything is.
 #[tactic(auto, using(crate::proofs::RowForms::local_forms))]
-fn judge_row(alloc: Global, row: &Row) -> Result<Option<Wrong>, CheckFault>
+fn judge_row(alloc: Global, row: &Row) -> Got<Option<Wrong>>
     ensures { HasLocalCells row.now → IfOk result (Judges (IsLawfulLocal row.now)) }
 {
     let Some(id) = blob_at(row, 2) else {
@@ -45,7 +46,7 @@ fn judge_row(alloc: Global, row: &Row) -> Result<Option<Wrong>, CheckFault>
 }
 
 /// Tells what is wrong with the row of a local document, whose database is there or is not.
-fn judge_owned(alloc: Global, row: &Row, there: bool) -> Result<Option<Wrong>, CheckFault>
+fn judge_owned(alloc: Global, row: &Row, there: bool) -> Got<Option<Wrong>>
     ensures { HasLocalCells row.now → IfOk result (Judges ((there ≡ true) × IsLawfulLocal row.now)) }
 {
     if !there {
@@ -63,5 +64,5 @@ pub(crate) fn check_local<S: Alter>(
     ensures { Inspects S.Store IsShaped conn.old conn.new (λ trees found. HasLocalCells row.now → Judges (IsLocalRow trees row.now) found) result }
 {
     let length = find_length(conn, &whole_or_zero(row, 1))?;
-    judge_owned(alloc, row, length.is_some())
+    Ok(judge_owned(alloc, row, length.is_some())?)
 }

@@ -17,6 +17,7 @@ use crate::finding::{CheckFault, Wrong};
 use crate::layout::cells::{count_at, text_at};
 use crate::layout::finding_rows::{bytes_at, has_document, has_revision, whole_or_zero};
 use crate::layout::texts::is_body_text;
+use couch_json::Got;
 use sqlite::{Alter, Connection, Row};
 use sqlite_value::value::ValueRef;
 use std::alloc::Global;
@@ -44,7 +45,7 @@ fn shows_nothing(row: &Row) -> bool
 
 /// Tells what is wrong with the cells of what is held of a revision, if anything is.
 #[tactic(auto, using(crate::proofs::RowForms::held_forms))]
-fn judge_held(alloc: Global, row: &Row) -> Result<Option<Wrong>, CheckFault>
+fn judge_held(alloc: Global, row: &Row) -> Got<Option<Wrong>>
     ensures { IfOk result (Judges (IsHeldSo row.now)) }
 {
     if shows_nothing(row) {
@@ -106,12 +107,7 @@ fn is_following(row: &Row, number: u64, known: bool) -> bool
 /// Tells what is wrong with the row of a revision whose document is there or is not, and whose parent is
 /// known or is not, if anything is.
 #[tactic(auto, using(crate::proofs::RevisionForms::revision_forms))]
-fn judge_revision(
-    alloc: Global,
-    row: &Row,
-    there: bool,
-    known: bool,
-) -> Result<Option<Wrong>, CheckFault>
+fn judge_revision(alloc: Global, row: &Row, there: bool, known: bool) -> Got<Option<Wrong>>
     ensures { HasRevisionCells row.now → IfOk result (Judges (IsWholeRevision row.now there known)) }
 {
     if !there {
@@ -147,7 +143,7 @@ fn check_followed<S: Alter>(
         &number_before(row),
         bytes_at(row, 5),
     )?;
-    judge_revision(alloc, row, there, known)
+    Ok(judge_revision(alloc, row, there, known)?)
 }
 
 /// Checks the row of a revision.

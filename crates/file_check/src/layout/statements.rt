@@ -1,7 +1,9 @@
-//! The statements of a check. Each answers whatever its rows say, where their cells are those of the columns.
+//! The statements of a check. Each answers whatever its rows say, where their cells are those of the columns, and
+//! fails only where the library refuses it.
 
 ghost use Rattle.std.specs.Prelude.{◌≡◌, IsPermutation, filter, map, None, Some};
 ghost use Rattle.tables.specs.Calls.{Reads};
+ghost use Rattle.file_check.specs.Refusals.{RefusesOnly};
 ghost use Rattle.tables.specs.Rows.{has_number, is_row_of_document, listed_document, shown_revision};
 ghost use Rattle.tables.specs.Schema.{dbs_tree, docs_tree, meta_tree, revs_tree};
 ghost use Rattle.file_check.specs.Tables.{IsShaped, is_at_sequence, tree_of};
@@ -15,7 +17,8 @@ use tables::statement::query;
 
 /// Returns the rows of `meta`, in some order.
 pub(crate) fn version_rows<S: Alter>(conn: &mut Connection<S>) -> Result<Vec<Row>, Error>
-    ensures { Reads S.Store IsShaped conn.old conn.new (λ trees rows. IsPermutation (trees meta_tree) rows.items) result }
+    ensures reads { Reads S.Store IsShaped conn.old conn.new (λ trees rows. IsPermutation (trees meta_tree) rows.items) result }
+    ensures failed { RefusesOnly S.Store conn.old conn.new result }
 {
     query(conn, "SELECT rowid, version FROM meta", &[])
 }
@@ -26,7 +29,8 @@ pub(crate) fn next_row<S: Alter>(
     table: Checked,
     last: &Option<i64>,
 ) -> Result<Vec<Row>, Error>
-    ensures { Reads S.Store IsShaped conn.old conn.new (λ trees rows. rows.items ≡ next_rows (λ r. r) last.now (trees (tree_of table))) result }
+    ensures reads { Reads S.Store IsShaped conn.old conn.new (λ trees rows. rows.items ≡ next_rows (λ r. r) last.now (trees (tree_of table))) result }
+    ensures failed { RefusesOnly S.Store conn.old conn.new result }
 {
     match last {
         Some(last) => row_behind(conn, table, last),
@@ -36,7 +40,8 @@ pub(crate) fn next_row<S: Alter>(
 
 /// Returns the first row of a table, if there is one.
 fn first_row<S: Alter>(conn: &mut Connection<S>, table: Checked) -> Result<Vec<Row>, Error>
-    ensures { Reads S.Store IsShaped conn.old conn.new (λ trees rows. rows.items ≡ next_rows (λ r. r) None (trees (tree_of table))) result }
+    ensures reads { Reads S.Store IsShaped conn.old conn.new (λ trees rows. rows.items ≡ next_rows (λ r. r) None (trees (tree_of table))) result }
+    ensures failed { RefusesOnly S.Store conn.old conn.new result }
 {
     query(conn, first_text(table), &[])
 }
@@ -47,7 +52,8 @@ fn row_behind<S: Alter>(
     table: Checked,
     last: &i64,
 ) -> Result<Vec<Row>, Error>
-    ensures { Reads S.Store IsShaped conn.old conn.new (λ trees rows. rows.items ≡ next_rows (λ r. r) (Some last.now) (trees (tree_of table))) result }
+    ensures reads { Reads S.Store IsShaped conn.old conn.new (λ trees rows. rows.items ≡ next_rows (λ r. r) (Some last.now) (trees (tree_of table))) result }
+    ensures failed { RefusesOnly S.Store conn.old conn.new result }
 {
     query(conn, behind_text(table), params![last])
 }
@@ -90,7 +96,8 @@ fn behind_text(table: Checked) -> &'static str
 
 /// Returns the sequence of the database of this number, in one row or none.
 pub(crate) fn length_rows<S: Alter>(conn: &mut Connection<S>, db: &i64) -> Result<Vec<Row>, Error>
-    ensures { Reads S.Store IsShaped conn.old conn.new (λ trees rows. rows.items ≡ map shown_length (filter (has_number db.now) (trees dbs_tree))) result }
+    ensures reads { Reads S.Store IsShaped conn.old conn.new (λ trees rows. rows.items ≡ map shown_length (filter (has_number db.now) (trees dbs_tree))) result }
+    ensures failed { RefusesOnly S.Store conn.old conn.new result }
 {
     query(conn, "SELECT seq FROM dbs WHERE num = ?1", params![db])
 }
@@ -101,8 +108,9 @@ pub(crate) fn one_document_rows<S: Alter>(
     db: &i64,
     id: &[u8],
 ) -> Result<Vec<Row>, Error>
-    ensures { Reads S.Store IsShaped conn.old conn.new
+    ensures reads { Reads S.Store IsShaped conn.old conn.new
         (λ trees rows. rows.items ≡ map listed_document (filter (is_row_of_document db.now id.now) (trees docs_tree))) result }
+    ensures failed { RefusesOnly S.Store conn.old conn.new result }
 {
     query(
         conn,
@@ -117,8 +125,9 @@ pub(crate) fn sequence_rows<S: Alter>(
     db: &i64,
     sequence: &i64,
 ) -> Result<Vec<Row>, Error>
-    ensures { Reads S.Store IsShaped conn.old conn.new
+    ensures reads { Reads S.Store IsShaped conn.old conn.new
         (λ trees rows. IsPermutation (map shown_sequence (filter (is_at_sequence db.now sequence.now) (trees docs_tree))) rows.items) result }
+    ensures failed { RefusesOnly S.Store conn.old conn.new result }
 {
     query(
         conn,
@@ -133,8 +142,9 @@ pub(crate) fn history_rows<S: Alter>(
     db: &i64,
     id: &[u8],
 ) -> Result<Vec<Row>, Error>
-    ensures { Reads S.Store IsShaped conn.old conn.new
+    ensures reads { Reads S.Store IsShaped conn.old conn.new
         (λ trees rows. IsPermutation (map shown_revision (filter (is_row_of_document db.now id.now) (trees revs_tree))) rows.items) result }
+    ensures failed { RefusesOnly S.Store conn.old conn.new result }
 {
     query(
         conn,
@@ -151,8 +161,9 @@ pub(crate) fn stored_rows<S: Alter>(
     number: &i64,
     hash: &str,
 ) -> Result<Vec<Row>, Error>
-    ensures { Reads S.Store IsShaped conn.old conn.new
+    ensures reads { Reads S.Store IsShaped conn.old conn.new
         (λ trees rows. IsPermutation (map shown_stored (filter (is_stored db.now id.now number.now hash.now) (trees revs_tree))) rows.items) result }
+    ensures failed { RefusesOnly S.Store conn.old conn.new result }
 {
     query(
         conn,
@@ -168,8 +179,9 @@ pub(crate) fn hash_rows<S: Alter>(
     id: &[u8],
     number: &i64,
 ) -> Result<Vec<Row>, Error>
-    ensures { Reads S.Store IsShaped conn.old conn.new
+    ensures reads { Reads S.Store IsShaped conn.old conn.new
         (λ trees rows. IsPermutation (map shown_numbered (filter (is_numbered db.now id.now number.now) (trees revs_tree))) rows.items) result }
+    ensures failed { RefusesOnly S.Store conn.old conn.new result }
 {
     query(
         conn,

@@ -11,14 +11,13 @@ ghost use Rattle.store.specs.SpecialMembers.{are_plain, is_plain, is_special};
 ghost use Rattle.tables.specs.Rows.{json_in_cell};
 ghost use Rattle.file_check.specs.inner.Texts.{IsBodyText, IsSecurityText};
 
-use crate::finding::CheckFault;
-use couch_json::{Json, JsonFault, NameMap, canon};
+use couch_json::{Got, Json, JsonFault, NameMap, NoMemory, canon};
 use policy::{Security, SecurityFault};
 use std::alloc::Global;
 
 /// Reads the value of a canonical text, if the text is canonical.
 #[tactic(auto, using(crate::proofs::RowForms::unspelled))]
-fn read_canonical(alloc: Global, text: &[u8]) -> Result<Option<Json>, CheckFault>
+fn read_canonical(alloc: Global, text: &[u8]) -> Got<Option<Json>>
     ensures value { IfOk result
         (λ found. MatchOption found (text.now ≢ canonical (json_in_cell (Text text.now)))
         (λ value. (view value ≡ json_in_cell (Text text.now)) × (text.now ≡ canonical (view value)))) }
@@ -26,7 +25,7 @@ fn read_canonical(alloc: Global, text: &[u8]) -> Result<Option<Json>, CheckFault
 {
     let value = match couch_json::read(alloc, text) {
         Ok(value) => value,
-        Err(JsonFault::Memory) => return Err(CheckFault::Memory),
+        Err(JsonFault::Memory) => return Err(NoMemory),
         Err(_) => return Ok(None),
     };
     let spelled = canon(alloc, &value)?;
@@ -38,7 +37,7 @@ fn read_canonical(alloc: Global, text: &[u8]) -> Result<Option<Json>, CheckFault
 }
 
 /// Tells whether the text is that of a security object.
-pub(crate) fn is_security_text(alloc: Global, text: &[u8]) -> Result<bool, CheckFault>
+pub(crate) fn is_security_text(alloc: Global, text: &[u8]) -> Got<bool>
     ensures { IfOk result (λ is. IsTrue is ↔ IsSecurityText text.now) }
 {
     let Some(value) = read_canonical(alloc, text)? else {
@@ -47,12 +46,12 @@ pub(crate) fn is_security_text(alloc: Global, text: &[u8]) -> Result<bool, Check
     match Security::read(alloc, &value) {
         Ok(_) => Ok(true),
         Err(SecurityFault::Shape) => Ok(false),
-        Err(SecurityFault::Memory) => Err(CheckFault::Memory),
+        Err(SecurityFault::Memory) => Err(NoMemory),
     }
 }
 
 /// Tells whether the text is that of the body of a document.
-pub(crate) fn is_body_text(alloc: Global, text: &[u8]) -> Result<bool, CheckFault>
+pub(crate) fn is_body_text(alloc: Global, text: &[u8]) -> Got<bool>
     ensures ok { IfOk result (λ is. IsTrue is ↔ IsBodyText text.now) }
     ensures lawful { IfOk result (λ is. IsTrue is → IsLawful (json_in_cell (Text text.now))) }
 {

@@ -1,8 +1,8 @@
-use Rattle.std.proofs.Common.{IfOk, Ok, OnOk, ap, inr, subst, ◌∙◌}
+use Rattle.std.proofs.Common.{Err, IfOk, Ok, OnOk, ap, inr, rules, subst, sym, ◌∙◌, ◌≡◌}
 use Rattle.sqlite.specs.Held.{state}
-use Rattle.file_check.specs.Checks.{IsSame}
+use Rattle.file_check.specs.Checks.{FailsOnly, IsSame}
 use Rattle.file_check.proofs.Stores.{IsStoreChecked}
-use Rattle.file_check.proofs.Verdicts.{committed_store, index_named, index_refuted, rows_counted, same_all, same_indexes}
+use Rattle.file_check.proofs.Verdicts.{committed_store, index_named, index_refuted, resting, rows_counted, same_all, same_indexes}
 use Rattle.file_check.proofs.file.check.Goals as goal
 
 pub returns-in-Some-2-clause-unsound : goal.returns-in-Some-2-clause-unsound
@@ -39,3 +39,18 @@ returns-in-Some-2-clause-stays g c clean kept =
     subst (λ r. OnOk r (IsSame (state g.S.Store c.args.conn.now) (state g.S.Store c.check_indexes.new.conn))) (c.in_ok-finding-2.was ∙ ap Ok c.in-Some-2.is)
     (same_indexes g.S.Store c.args.conn.now c.check_tables.new.conn c.check_tables.result (c.in_ok-finding.was ∙ ap Ok c.in_default.is) kept c.check_tables.ensures.live c.check_tables.ensures.ours
     (λ clean has. c.check_tables.ensures.sound clean has kept.tables) c.check_tables.ensures.served c.check_tables.ensures.stays c.check_indexes.new.conn c.check_indexes.result c.check_indexes.ensures clean)
+
+pub returns-in_err-finding-clause-failed : goal.returns-in_err-finding-clause-failed
+returns-in_err-finding-clause-failed g c = λ kept none.
+    let is : c.from_residual.result ≡ Err c.in_err-finding.field-0.0 = search rules in
+    subst (FailsOnly g.S.Store c.args.conn.now c.check_tables.new.conn) (sym is) c.in_err-finding.ensures.goes.accounts.failed
+
+pub returns-in_err-finding-2-clause-failed : goal.returns-in_err-finding-2-clause-failed
+returns-in_err-finding-2-clause-failed g c = λ kept none has clean.
+    absurd (none (resting g.S.Store c.args.conn.now c.check_tables.new.conn c.check_tables.result (c.in_ok-finding.was ∙ ap Ok c.in_default.is) kept c.check_tables.ensures.live c.check_tables.ensures.ours
+    (λ clean has. c.check_tables.ensures.sound clean has kept.tables) c.check_tables.ensures.served c.check_tables.ensures.stays (c.in_err-finding-2.ensures.asks.clean clean)))
+
+pub returns-in_err-counts-clause-failed : goal.returns-in_err-counts-clause-failed
+returns-in_err-counts-clause-failed g c = λ kept none has clean.
+    absurd (none (resting g.S.Store c.args.conn.now c.check_tables.new.conn c.check_tables.result (c.in_ok-finding.was ∙ ap Ok c.in_default.is) kept c.check_tables.ensures.live c.check_tables.ensures.ours
+    (λ clean has. c.check_tables.ensures.sound clean has kept.tables) c.check_tables.ensures.served c.check_tables.ensures.stays (c.check_indexes.ensures.asks.clean (c.in_err-counts.ensures.asks.clean clean))))

@@ -7,7 +7,7 @@ use Rattle.file_check.proofs.layout.checking.check_databases.Goals as goal
 pub returns-in_err-found : goal.returns-in_err-found
 returns-in_err-found g c =
     let is : c.from_residual.result ≡ Err c.in_err-found.field-0.0 = search rules in
-    inspects_nothing _ c.in_err-found.field-0.0 c.in_err-found.field-0.0 c.from_residual.result is c.in_err-found.ensures
+    inspects_nothing _ _ c.from_residual.result is c.in_err-found.ensures
 
 pub returns : goal.returns
 returns g c = inspects_goes (λ d fit. fit.schema_is) _ c.in_ok-found.found (λ d fit before found next. databases_next d.trees c.in_ok-found.found before found next) c.check_next.ensures c.in_ok-found.ensures

@@ -1,7 +1,6 @@
 use Rattle.tables.proofs.Common.{Err, Ok, rules, subst, sym, ◌≡◌}
 use Rattle.file_check.specs.Inspecting.{Inspects}
 use Rattle.file_check.specs.Tables.{IsShaped}
-use Rattle.file_check.specs.declared.finding.CheckFault.TheVariants as fault
 use Rattle.file_check.proofs.TableWalks.{Tells, Walked, begins, ends, fails, finds, gives_up, goes_on}
 use Rattle.file_check.proofs.layout.checking.check_table.Goals as goal
 
@@ -31,4 +30,4 @@ returns-in_err-step g c =
     fails g.S.Store c.args.table c.loop-row.last e c.from_residual.result is c.loop-row.invariant c.in_err-step.ensures
 
 pub returns : goal.returns
-returns g c = gives_up g.S.Store c.args.table c.loop-row.last fault.Memory c.loop-row.invariant
+returns g c = gives_up g.S.Store c.args.table c.loop-row.last c.loop-row.invariant

@@ -7,7 +7,7 @@ use Rattle.file_check.proofs.layout.documents.check_document.Goals as goal
 pub returns-in_err-length : goal.returns-in_err-length
 returns-in_err-length g c =
     let is : c.from_residual.result ≡ Err c.in_err-length.field-0.0 = search rules in
-    inspects_nothing _ c.in_err-length.field-0.0 c.in_err-length.field-0.0 c.from_residual.result is c.in_err-length.ensures
+    inspects_nothing _ _ c.from_residual.result is c.in_err-length.ensures
 
 pub returns : goal.returns
 returns g c =

@@ -1,14 +1,14 @@
 use Rattle.tables.proofs.Common.{Err, ap, rules, ◌∙◌, ◌≡◌}
 use Rattle.std.specs.Prelude.{length, nat_lt}
 use Rattle.file_check.proofs.Found.{sequences_found}
-use Rattle.file_check.proofs.Inspecting.{inspects_nothing, inspects_of, inspects_so}
+use Rattle.file_check.proofs.Inspecting.{inspects_nothing, inspects_of, inspects_refused, inspects_so}
 use Rattle.file_check.specs.declared.finding.CheckFault.TheVariants as fault
 use Rattle.file_check.proofs.layout.finding_rows.has_sequence.Goals as goal
 
 pub returns-in_err-rows : goal.returns-in_err-rows
 returns-in_err-rows g c =
     let is : c.from_residual.result ≡ Err (fault.Sqlite c.in_err-rows.field-0.0) = search rules in
-    inspects_nothing _ c.in_err-rows.field-0.0 _ c.from_residual.result is (inspects_of c.in_err-rows.ensures)
+    inspects_nothing _ _ c.from_residual.result is (inspects_refused c.in_err-rows.ensures.reads c.in_err-rows.ensures.failed)
 
 pub returns : goal.returns
-returns g c = inspects_so _ c.in_ok-rows.rows _ (λ trees is. c.is_any.ensures ∙ ap (λ l. nat_lt 0 (length l)) c.deref.ensures.value ∙ sequences_found trees c.args.db.now c.args.sequence.now c.in_ok-rows.rows.items is) (inspects_of c.in_ok-rows.ensures)
+returns g c = inspects_so _ c.in_ok-rows.rows _ (λ trees is. c.is_any.ensures ∙ ap (λ l. nat_lt 0 (length l)) c.deref.ensures.value ∙ sequences_found trees c.args.db.now c.args.sequence.now c.in_ok-rows.rows.items is) (inspects_of c.in_ok-rows.ensures.reads)

@@ -6,7 +6,7 @@ use Rattle.file_check.proofs.layout.revisions.check_revision.Goals as goal
 pub returns-in_err-there : goal.returns-in_err-there
 returns-in_err-there g c =
     let is : c.from_residual.result ≡ Err c.in_err-there.field-0.0 = search rules in
-    inspects_nothing _ c.in_err-there.field-0.0 c.in_err-there.field-0.0 c.from_residual.result is c.in_err-there.ensures
+    inspects_nothing _ _ c.from_residual.result is c.in_err-there.ensures
 
 pub returns : goal.returns
 returns g c =

@@ -1,8 +1,12 @@
-use Rattle.file_check.proofs.Statements.{finds_length, length_is}
+use Rattle.file_check.proofs.Statements.{finds_length, length_asked, length_is}
 use Rattle.tables.proofs.Lemmas.{reads_of, rules}
+use Rattle.file_check.proofs.Refused.{refuses_only}
 use Rattle.file_check.proofs.layout.statements.length_rows.Goals as goal
 
-pub returns : goal.returns
-returns g c =
+pub returns-clause-reads : goal.returns-clause-reads
+returns-clause-reads g c =
     reads_of g.S.Store _ _ length_is _ (λ fit. finds_length _ _ fit c.args.db.now c.query.result (λ rows. rows.items))
     c.query.ensures.ok (search rules) c.query.ensures.served c.query.ensures.stands c.query.ensures.looks c.query.ensures.asks
+
+pub returns-clause-failed : goal.returns-clause-failed
+returns-clause-failed g c = refuses_only g.S.Store c.args.conn.now c.query.new.conn length_is (length_asked c.args.db.now) (search rules) c.query.result c.query.ensures.err
