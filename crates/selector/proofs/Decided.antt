@@ -1,5 +1,5 @@
 -- Several truth values, of which one decides, as more of them come.
-use Rattle.std.proofs.Common.{◌≡◌, Bool, true, false, ◌||◌, ◌&&◌, not, Option, Some, None, Ordering, Less, Equal, Greater, refl, sym, ap, ◌∙◌}
+use Rattle.std.proofs.Common.{◌≡◌, Bool, true, false, ◌||◌, not, Option, Some, None, Ordering, Less, Equal, Greater, refl}
 use Rattle.std.specs.Ordering.{is_gt, is_lt, is_ne}
 use Rattle.couch_json.specs.Parts.{is_there_and}
 use Rattle.couch_json.specs.Value.{Value}

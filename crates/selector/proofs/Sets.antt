@@ -1,5 +1,5 @@
 -- What a set of values contains once values are added.
-use Rattle.std.proofs.Common.{◌≡◌, List, [], ◌∷◌, ◌++◌, Bool, true, false, ◌||◌, Option, Some, refl, sym, ap, ap₂, ◌∙◌}
+use Rattle.std.proofs.Common.{◌≡◌, List, [], ◌∷◌, ◌++◌, Bool, true, false, ◌||◌, Option, Some, sym, ap, ap₂, ◌∙◌}
 use Rattle.std.specs.Ordering.{is_eq}
 use Rattle.couch_json.specs.Collation.{collation}
 use Rattle.couch_json.specs.Value.{Value}

@@ -1,8 +1,8 @@
 -- A selector that is one comparison of what a path reaches.
-use Rattle.std.proofs.Common.{◌≡◌, ℕ, List, [], ◌∷◌, Bool, true, false, not, ◌&&◌, ◌||◌, Option, Some, None, IfSome, option_and_then, refl, subst, sym, ap, ◌∙◌}
+use Rattle.std.proofs.Common.{◌≡◌, ℕ, List, [], ◌∷◌, Bool, true, false, ◌&&◌, Option, Some, None, IfSome, option_and_then, refl, subst, ap, ◌∙◌}
 use Rattle.couch_json.specs.FieldPath.{value_at}
 use Rattle.couch_json.specs.Parts.{is_object, is_there_and}
-use Rattle.couch_json.specs.Value.{Value, object, member, no_members}
+use Rattle.couch_json.specs.Value.{Value, object}
 use Rattle.couch_json.specs.View.{view}
 use Rattle.selector.specs.Lookup.{holds_or}
 use Rattle.selector.specs.LookedUp.{condition_truth}

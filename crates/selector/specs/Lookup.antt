@@ -1,6 +1,6 @@
 -- What is looked up in place of asking each selector of a list.
 -- No outside source decides: it says of the parts of the code what they find.
-use Rattle.std.specs.Prelude.{◌≡◌, ℕ, List, Bool, true, false, ◌||◌, not, if◌then◌else◌, Option, None, Some, option_map, slice_get}
+use Rattle.std.specs.Prelude.{◌≡◌, ℕ, List, Bool, false, ◌||◌, not, if◌then◌else◌, Option, None, Some, option_map, slice_get}
 use Rattle.std.specs.List.{list_any}
 use Rattle.std.specs.Ordering.{is_ge, is_gt, is_le, is_lt}
 use Rattle.couch_json.specs.Collation.{collation}

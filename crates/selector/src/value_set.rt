@@ -102,8 +102,8 @@ impl ValueSet {
         }
     }
 
-    /// Adds the values by which the comparison decides a list with this operator. Tells whether such
-    /// values can be added.
+    /// Adds the values by which the comparison decides a list with this operator. Tells whether
+    /// such values can be added.
     pub(crate) fn add_deciding(
         &mut self,
         alloc: Global,
