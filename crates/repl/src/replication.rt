@@ -257,12 +257,7 @@ impl Replication {
             let Some(document) = self.pending.get(index + 1) else {
                 return Ok(requests);
             };
-            requests.push(open_revisions(
-                self.alloc,
-                &self.config,
-                Side::Source,
-                document,
-            )?)?;
+            requests.push(open_revisions(self.alloc, &self.config, Side::Source, document)?)?;
         }
         Ok(requests)
     }
